@@ -1,1 +1,4 @@
 pub mod Bits
+pub mod Signs
+pub mod Sets
+pub mod Counts

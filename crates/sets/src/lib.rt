@@ -1,0 +1,8 @@
+//! Sets of facts, of literals and of actions, each a few words of bits: small values that are copied, compared and combined by whole words.
+//! A planner's tasks, levels and parts are made of them.
+pub mod actions;
+pub mod facts;
+pub mod literals;
+pub use crate::facts::FactSet;
+pub use crate::literals::Literals;
+pub use crate::actions::ActionSet;
