@@ -3,6 +3,7 @@
 pub mod actions;
 pub mod facts;
 pub mod literals;
+
+pub use crate::actions::ActionSet;
 pub use crate::facts::FactSet;
 pub use crate::literals::Literals;
-pub use crate::actions::ActionSet;

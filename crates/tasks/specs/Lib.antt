@@ -1,2 +1,16 @@
 pub mod Meaning
 pub mod States
+pub mod Rows
+pub mod Bundle
+pub mod Refusals
+pub mod Independence
+pub mod Masks
+pub mod Masked
+pub mod Filled
+pub mod Described
+pub mod Tables
+pub mod Tabled
+pub mod Bans
+pub mod Banned
+pub mod Restarts
+pub mod Restarted

@@ -51,5 +51,11 @@ pub record Lawful (m : Meaning) : Type 0 where
 -- The answers of one task as a meaning.
 abbrev pub bundle : {S : Type 0} → (S → ℕ) → (S → ℕ) → (S → ℕ → Bool) → (S → ℕ → ℕ → ℤ) → (S → ℕ → ℕ → ℤ) → (S → ℕ → ℤ) → (S → ℕ → ℤ) → S → Meaning
 bundle facts actions usable needs makes start goal t = record {
-  facts = facts t; actions = actions t; usable = usable t; needs = needs t; makes = makes t; start = start t; goal = goal t;
+  facts = facts t;
+  actions = actions t;
+  usable = usable t;
+  needs = needs t;
+  makes = makes t;
+  start = start t;
+  goal = goal t;
 }

@@ -1,0 +1,13 @@
+pub mod Packing
+pub mod Gathering
+pub mod Layers
+pub mod Masking
+pub mod Copies
+pub mod Rowing
+pub mod Assembling
+pub mod Tabling
+pub mod Starting
+pub mod Acting
+pub mod Listing
+pub mod Disjoint
+pub mod Seeing
