@@ -1,0 +1,45 @@
+-- Reading accepts exactly what a well-formed sheet spells: an accepted sheet is a spelled one, and a spelled one is accepted,
+-- so that a refusal of a line leaves none that spells it.
+use mathlib.Core.Path.{_≡_, refl, sym, ap, _∙_}
+use mathlib.Core.Bool.{Bool, true, false, cond}
+use mathlib.Core.List.{List}
+use Prim.Native.Nat.{ℕ, _≤_}
+use native.Mathlib.Omega.{arith}
+use lib.Dec.{ltb}
+use lib.ListN.{length}
+use Rattle.std.specs.declared.result.Result.{Result}
+use Rattle.std.specs.declared.result.Result.the-variants.{Ok, Err}
+use Rattle.sheet.specs.declared.counts.Counts.{Counts}
+use Rattle.sheet.specs.declared.fault.Fault.{Fault}
+use Rattle.sheet.specs.declared.fault.Fault.the-variants as fault
+use Rattle.sheet.specs.declared.refusal.Refusal.{Refusal}
+use Rattle.sheet.specs.Dues.{refuse}
+use Rattle.sheet.specs.Faults.{number}
+use Rattle.sheet.specs.Sheet.{Tables, Read, Read-into, sheet, short, reading, written}
+use Rattle.sheet.specs.Grammar.{JobSheet, Well-formed, spell, meaning, Accepts-exactly-what-is-spelled}
+use Rattle.sheet.proofs.Naming.{agree-ok, agree-err}
+use Rattle.sheet.proofs.Accepted.{accepted}
+use Rattle.sheet.proofs.Written.{written as its-reading}
+
+-- past a check that did not refuse
+passed : (b : Bool) (f : Fault) (r : Result Read Refusal) (x : Read) → cond b (refuse f 0) r ≡ Ok x → r ≡ Ok x
+passed true f r x e = absurd (grind arith)
+passed false f r x e = e
+
+-- past a check before the lines
+lined : (b : Bool) (f : Fault) (r : Result Read Refusal) (e : Refusal) → number f ≤ 2 → 3 ≤ number (e .fault) → cond b (refuse f 0) r ≡ Err e → r ≡ Err e
+lined true f r e low high h = let same : f ≡ e .fault = cc in absurd (omega (arith, low, high, ap number same))
+lined false f r e low high h = h
+
+pub lawful : (bs : List ℕ) (before after : Tables) (r : Result Counts Refusal) → Read-into bs before after r → Accepts-exactly-what-is-spelled bs before after r
+lawful bs before after (Ok c) h =
+    let p = agree-ok _ (reading bs before) c h in
+    let x = p .0 in
+    let is = passed (short before) fault.TableTooShort (sheet bs) x (passed (ltb 32768 (length bs)) fault.TooLong _ x (p .1)) in
+    let q = accepted bs x is in
+    (q .0, q .1, q .2, p .2 .0 ∙ ap (λ y. y .counts) (q .3), p .2 .1 ∙ ap (λ y. written (y .tables) before) (q .3))
+lawful bs before after (Err e) h = λ high v w s.
+    let is = lined (short before) fault.TableTooShort (sheet bs) e (omega arith) high
+        (lined (ltb 32768 (length bs)) fault.TooLong _ e (omega arith) high (agree-err _ (reading bs before) e h)) in
+    let both : _≡_ {A = Result Read Refusal} (Err e) (Ok (meaning v)) = sym is ∙ ap sheet s ∙ its-reading v w in
+    grind arith
