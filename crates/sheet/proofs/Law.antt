@@ -22,7 +22,7 @@ use Rattle.sheet.proofs.Accepted.{accepted}
 use Rattle.sheet.proofs.Written.{written as its-reading}
 
 -- past a check that did not refuse
-passed : (b : Bool) (f : Fault) (r : Result Read Refusal) (x : Read) → cond b (refuse f 0) r ≡ Ok x → r ≡ Ok x
+pub passed : (b : Bool) (f : Fault) (r : Result Read Refusal) (x : Read) → cond b (refuse f 0) r ≡ Ok x → r ≡ Ok x
 passed true f r x e = absurd (grind arith)
 passed false f r x e = e
 

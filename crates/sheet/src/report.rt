@@ -1,0 +1,49 @@
+//! The report: what is printed of a verdict, or of a sheet that is refused.
+ghost use mathlib.Core.Path.{_≡_};
+ghost use lib.ListN.{length};
+ghost use Rattle.std.specs.Vec.{refused};
+ghost use Rattle.sheet.specs.Report.{report-text, refusal-text, Written, Reports-the-sheet};
+use crate::fault::Fault;
+use crate::refusal::Refusal;
+use crate::text::put;
+use crate::text::put_labelled;
+use crate::verdicts::write_verdict;
+use crate::whole::check;
+use search::verdict::Verdict;
+
+/// Writes what a search says of a sheet: `found N` and the names of the N actions of the plan, one a line; or `none K`; or
+/// `unfinished`. Every line ends in LF. Answers how many bytes were written.
+///
+/// Refused where the search is blank, where the buffer has fewer than 800 bytes, and where the sheet is refused or the plan
+/// is not one of it: fewer numbers than N, more than 30, or a number that is no action's.
+pub fn report(sheet: &[u8], verdict: Verdict, plan: &[u8], buffer: &mut [u8]) -> Result<usize, Fault>
+    ensures value { λ r. ⌜ Written (report-text (now (sheet .entry)) verdict (now (plan .entry)) (length (now (buffer .entry))))
+        (now (buffer .entry)) (now (buffer .exit)) r ⌝ }
+    ensures same { λ r. ⌜ refused r (λ _. now (buffer .exit) ≡ now (buffer .entry)) ⌝ }
+    ensures law { λ r. ⌜ Reports-the-sheet (now (sheet .entry)) verdict (now (plan .entry)) (now (buffer .entry)) (now (buffer .exit)) r ⌝ }
+{
+    if let Verdict::Blank = verdict {
+        return Err(Fault::Blank);
+    }
+    if buffer.len() < 800 {
+        return Err(Fault::BufferTooShort);
+    }
+    match check(sheet) {
+        Ok(counts) => write_verdict(sheet, counts, verdict, plan, buffer),
+        Err(_) => Err(Fault::Mismatch),
+    }
+}
+
+/// Writes the refusal of a sheet, `refused N line L` and LF, with line 0 where the sheet was refused before its lines.
+/// Answers how many bytes were written. Refused where the buffer has fewer than 800 bytes.
+pub fn write_refusal(refusal: Refusal, buffer: &mut [u8]) -> Result<usize, Fault>
+    ensures value { λ r. ⌜ Written (refusal-text refusal (length (now (buffer .entry)))) (now (buffer .entry)) (now (buffer .exit)) r ⌝ }
+    ensures same { λ r. ⌜ refused r (λ _. now (buffer .exit) ≡ now (buffer .entry)) ⌝ }
+{
+    if buffer.len() < 800 {
+        return Err(Fault::BufferTooShort);
+    }
+    let at = put_labelled(buffer, 0, b"refused ", refusal.fault.number() as usize);
+    let at = put_labelled(buffer, at, b" line ", refusal.told_line());
+    Ok(put(buffer, at, b"\n"))
+}
