@@ -37,11 +37,8 @@ use Rattle.sheet.specs.Readers.{Next}
 use Rattle.sheet.specs.Sheet.{Read, sheet}
 use Rattle.sheet.specs.Spell.{unwords, line, literals}
 use Rattle.sheet.specs.Words.{words}
+use Rattle.sheet.proofs.Answered.{agree-ok, agree-err, agree-at-ok, agree-at-err, then-ok, kept, passed, rejected, ok-same}
 use Rattle.sheet.proofs.Accepted.{accepted}
-use Rattle.sheet.proofs.Acting.{agree-at-ok}
-use Rattle.sheet.proofs.Grammatical.{then-ok}
-use Rattle.sheet.proofs.Law.{passed}
-use Rattle.sheet.proofs.Naming.{agree-ok, agree-err, agree-at-err}
 use Rattle.sheet.proofs.Writing.{Tight, tight-decimal, tight-name, its-lines, words-unwords, head-no}
 use Rattle.sheet.proofs.Written.{written}
 
@@ -138,33 +135,25 @@ unnamed-ok (Ok y) x e = let same : y ≡ x = cc in ap Ok same
 unnamed-ok (Err f) x e = absurd (grind arith)
 
 pub checked-ok : (bs : List ℕ) (x : Read) → checked bs ≡ Ok x → sheet bs ≡ Ok x
-checked-ok bs x e = passed (ltb 32768 (length bs)) fault.TooLong (sheet bs) x e
+checked-ok bs x e = passed (ltb 32768 (length bs)) _ (sheet bs) x e
 
 pub spelled-checked : (bs : List ℕ) (v : JobSheet) → Well-formed v → bs ≡ spell v → length bs ≤ 32768 → checked bs ≡ Ok (meaning v)
 spelled-checked bs v w s h = checked-is bs h ∙ ap sheet s ∙ written v w
-
-chosen : {X : Type 0} (b : Bool) (n m : X) → _≡_ {A = Result X Fault} (cond b (Ok n) (Err fault.Mismatch)) (Ok m) → (b ≡ true) × (n ≡ m)
-chosen true n m e = (refl, cc)
-chosen false n m e = absurd (grind arith)
-
-rejected : {X : Type 0} (b : Bool) (n : X) (f : Fault) → _≡_ {A = Result X Fault} (cond b (Ok n) (Err fault.Mismatch)) (Err f) → b ≡ false
-rejected true n f e = absurd (grind arith)
-rejected false n f e = refl
 
 pub names-law : (bs : List ℕ) (a : ℕ) (r : Result (RefT (List ℕ)) Fault) → Agree (λ name n. n .now ≡ name) (named bs a) r → Names-the-action bs a r
 names-law bs a (Ok n) h =
     let p = agree-ok _ (named bs a) n h in
     let q = then-ok (unnamed (checked bs)) _ (p .0) (p .1) in
     let x = q .0 in
-    let k = chosen (ltb a (x .counts .actions)) (action-name bs (x .counts .facts) a) (p .0) (q .2) in
+    let k = kept (ltb a (x .counts .actions)) (Ok (action-name bs (x .counts .facts) a)) _ (p .0) (q .2) in
     let is = checked-ok bs x (unnamed-ok (checked bs) x (q .1)) in
     let s = accepted-name bs (x .counts) (x, is, refl) a (ltb-true a (x .counts .actions) (k .0)) in
-    (s .0, s .1, s .2, s .3, p .2 ∙ sym (k .1) ∙ s .4)
+    (s .0, s .1, s .2, s .3, p .2 ∙ sym (ok-same _ (p .0) (k .1)) ∙ s .4)
 names-law bs a (Err f) h = λ v w s short.
     let e = agree-err _ (named bs a) f h in
     let told = ap unnamed (spelled-checked bs v w s short) in
     let g = sym (ap (λ r. then r (λ x. cond (ltb a (x .counts .actions)) (Ok (action-name bs (x .counts .facts) a)) (Err fault.Mismatch))) told) ∙ e in
-    ltb-false a (length (v .acts)) (rejected (ltb a (length (v .acts))) (action-name bs (length (v .facts)) a) f g)
+    ltb-false a (length (v .acts)) (rejected (ltb a (length (v .acts))) (action-name bs (length (v .facts)) a) _ f g)
 
 -- the answers of the call
 module _ (bs : List ℕ) (a : ℕ) where

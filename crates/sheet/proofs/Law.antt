@@ -17,14 +17,9 @@ use Rattle.sheet.specs.Dues.{refuse}
 use Rattle.sheet.specs.Faults.{number}
 use Rattle.sheet.specs.Sheet.{Tables, Read, Read-into, sheet, short, reading, written}
 use Rattle.sheet.specs.Grammar.{JobSheet, Well-formed, spell, meaning, Accepts-exactly-what-is-spelled}
-use Rattle.sheet.proofs.Naming.{agree-ok, agree-err}
+use Rattle.sheet.proofs.Answered.{agree-ok, agree-err, passed}
 use Rattle.sheet.proofs.Accepted.{accepted}
 use Rattle.sheet.proofs.Written.{written as its-reading}
-
--- past a check that did not refuse
-pub passed : (b : Bool) (f : Fault) (r : Result Read Refusal) (x : Read) → cond b (refuse f 0) r ≡ Ok x → r ≡ Ok x
-passed true f r x e = absurd (grind arith)
-passed false f r x e = e
 
 -- past a check before the lines
 lined : (b : Bool) (f : Fault) (r : Result Read Refusal) (e : Refusal) → number f ≤ 2 → 3 ≤ number (e .fault) → cond b (refuse f 0) r ≡ Err e → r ≡ Err e
@@ -35,7 +30,7 @@ pub lawful : (bs : List ℕ) (before after : Tables) (r : Result Counts Refusal)
 lawful bs before after (Ok c) h =
     let p = agree-ok _ (reading bs before) c h in
     let x = p .0 in
-    let is = passed (short before) fault.TableTooShort (sheet bs) x (passed (ltb 32768 (length bs)) fault.TooLong _ x (p .1)) in
+    let is = passed (short before) _ (sheet bs) x (passed (ltb 32768 (length bs)) _ _ x (p .1)) in
     let q = accepted bs x is in
     (q .0, q .1, q .2, p .2 .0 ∙ ap (λ y. y .counts) (q .3), p .2 .1 ∙ ap (λ y. written (y .tables) before) (q .3))
 lawful bs before after (Err e) h = λ high v w s.

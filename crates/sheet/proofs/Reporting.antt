@@ -24,11 +24,9 @@ use Rattle.sheet.specs.Bodies.{over}
 use Rattle.sheet.specs.Dues.{then}
 use Rattle.sheet.specs.Report.{Added, Written, Reports-the-sheet, below, blank, ended, planned, report-text, text, text-for}
 use Rattle.sheet.specs.Sheet.{Read}
+use Rattle.sheet.proofs.Answered.{agree-ok, agree-at-ok, then-ok, kept, passed, ok-same}
 use Rattle.sheet.proofs.ActionNames.{checked-ok, sheet-names, unnamed-ok}
-use Rattle.sheet.proofs.Acting.{agree-at-ok}
 use Rattle.sheet.proofs.Adding.{added-all, added-more, added-as}
-use Rattle.sheet.proofs.Grammatical.{then-ok}
-use Rattle.sheet.proofs.Naming.{agree-ok}
 
 -- a loop that tests the numbers of a plan
 module _ (n : ℕ) (plan : List ℕ) (i : ℕ) where
@@ -81,25 +79,17 @@ text-same c f g same (verdict.Found n) plan e =
     ap (λ t. ended (codes "found " ++ decimal n) ++ t) (joined-same (c .actions) f g same (take n plan) (q .1))
 text-same c f g same (verdict.None k) plan e = refl
 
-past : {X : Type 0} (b : Bool) (f : Fault) (r : Result X Fault) (x : X) → cond b (Err f) r ≡ Ok x → r ≡ Ok x
-past true f r x e = absurd (grind arith)
-past false f r x e = e
-
-kept : {X : Type 0} (b : Bool) (x y : X) → _≡_ {A = Result X Fault} (cond b (Ok x) (Err fault.Mismatch)) (Ok y) → (b ≡ true) × (x ≡ y)
-kept true x y e = (refl, cc)
-kept false x y e = absurd (grind arith)
-
 -- a text that is written names the actions as the sheet does
 pub reports : (bs : List ℕ) (v : Verdict) (plan : List ℕ) (room : ℕ) (before after : List ℕ) (r : Result ℕ Fault) → Written (report-text bs v plan room) before after r → Reports-the-sheet bs v plan before after r
 reports bs v plan room before after (Ok n) h =
     let p = agree-ok _ (report-text bs v plan room) n h in
     let t = p .0 in
-    let q = then-ok (unnamed (checked bs)) (λ x. text-for bs (x .counts) v plan) t (past (ltb room 800) fault.BufferTooShort _ t (past (blank v) fault.Blank _ t (p .1))) in
+    let q = then-ok (unnamed (checked bs)) (λ x. text-for bs (x .counts) v plan) t (passed (ltb room 800) _ _ t (passed (blank v) _ _ t (p .1))) in
     let x = q .0 in
-    let k = kept (planned (x .counts) v plan) (text (action-name bs (x .counts .facts)) v plan) t (q .2) in
+    let k = kept (planned (x .counts) v plan) (Ok (text (action-name bs (x .counts .facts)) v plan)) _ t (q .2) in
     let s = sheet-names bs x (checked-ok bs x (unnamed-ok (checked bs) x (q .1))) in
     let same = text-same (x .counts) (action-name bs (x .counts .facts)) (λ a. getD (s .0 .acts) a []) (λ a l. s .4 a (omega (arith, l, ap (λ y. y .counts .actions) (s .3)))) v plan (k .0) in
-    (s .0, s .1, s .2, p .2 .1 ∙ ap (λ u. over u before) (sym (k .1) ∙ same))
+    (s .0, s .1, s .2, p .2 .1 ∙ ap (λ u. over u before) (sym (ok-same _ t (k .1)) ∙ same))
 reports bs v plan room before after (Err e) h = tt
 
 -- the answers of the call

@@ -1,8 +1,7 @@
 use mathlib.Core.Path.{refl, sym, ap, _∙_}
 use native.Mathlib.Omega.{arith}
 use Rattle.sheet.specs.Actions.{checked, named}
-use Rattle.sheet.proofs.Acting.{agree-at-ok}
-use Rattle.sheet.proofs.Naming.{agree-ok, agree-err, agree-at-err}
+use Rattle.sheet.proofs.Answered.{agree-ok, agree-err, agree-at-ok, agree-at-err}
 use Rattle.sheet.proofs.ActionNames.{names-law, refused-sheet, no-action, its-name}
 use Rattle.sheet.proofs.actions.action_name.Needs as need
 

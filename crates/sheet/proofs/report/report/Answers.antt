@@ -2,7 +2,7 @@ use mathlib.Core.Path.{refl, sym}
 use lib.ListN.{length}
 use Rattle.sheet.specs.Actions.{checked}
 use Rattle.sheet.specs.Report.{Written, report-text}
-use Rattle.sheet.proofs.Naming.{agree-ok, agree-err, agree-at-err}
+use Rattle.sheet.proofs.Answered.{agree-ok, agree-err, agree-at-err}
 use Rattle.sheet.proofs.Reporting.{not-blank, of-accepted, of-refused, reports}
 use Rattle.sheet.proofs.report.report.Needs as need
 

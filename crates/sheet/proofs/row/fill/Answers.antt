@@ -3,7 +3,7 @@ use lib.IntN.{pos}
 use lib.ListN.{getD}
 use Rattle.sheet.specs.Readers.{left}
 use Rattle.sheet.specs.Rows.{fill}
-use Rattle.sheet.proofs.Naming.{agree-at-err}
+use Rattle.sheet.proofs.Answered.{agree-at-err}
 use Rattle.sheet.proofs.Fills.{taken, twice}
 use Rattle.sheet.proofs.row.fill.Needs as need
 
