@@ -1,9 +1,9 @@
 -- The line of an action in a spelled sheet: after line 1 and the lines of the facts comes one line for each action, whose
 -- second word is its name.
 use mathlib.Core.Path.{_≡_, refl, sym, ap, _∙_}
-use mathlib.Core.Bool.{Bool, true, false, cond, _&&_}
+use mathlib.Core.Bool.{true, cond, _&&_}
 use mathlib.Core.List.{List, [], _∷_, _++_, append-assoc}
-use Prim.Native.Nat.{ℕ, zero, suc, _+_, _≤_, _<_, _^_}
+use Prim.Native.Nat.{ℕ, zero, suc, _+_, _≤_, _<_}
 use native.Mathlib.Omega.{arith}
 use denote.Ref.{RefT}
 use lib.Dec.{ltb, leb}
@@ -28,7 +28,7 @@ use Rattle.sheet.specs.declared.word.Head.the-variants.{Job, Fact, Act, Bodies
 use Rattle.sheet.specs.Actions.{Accepted, action-name, checked, named, unnamed, Names-the-action}
 use Rattle.sheet.specs.Agree.{Agree}
 use Rattle.sheet.specs.Counting.{Limits}
-use Rattle.sheet.specs.Dues.{then, rest, refuse}
+use Rattle.sheet.specs.Dues.{then, rest}
 use Rattle.sheet.specs.Forms.{text}
 use Rattle.sheet.specs.Grammar.{JobSheet, Well-formed, spell, meaning}
 use Rattle.sheet.specs.Lines.{lines}
@@ -39,7 +39,7 @@ use Rattle.sheet.specs.Spell.{unwords, line, literals}
 use Rattle.sheet.specs.Words.{words}
 use Rattle.sheet.proofs.Answered.{agree-ok, agree-err, agree-at-ok, agree-at-err, then-ok, kept, passed, rejected, ok-same}
 use Rattle.sheet.proofs.Accepted.{accepted}
-use Rattle.sheet.proofs.Writing.{Tight, tight-decimal, tight-name, its-lines, words-unwords, head-no}
+use Rattle.sheet.proofs.Writing.{Tight, tight-decimal, tight-name, its-lines, words-unwords}
 use Rattle.sheet.proofs.Written.{written}
 
 pub next-rest : (ws : List (List ℕ)) (r : Option (RefT (List ℕ))) (ws′ : List (List ℕ)) → Next ws r ws′ → ws′ ≡ rest ws

@@ -1,6 +1,6 @@
 -- Reading accepts exactly what a well-formed sheet spells: an accepted sheet is a spelled one, and a spelled one is accepted,
 -- so that a refusal of a line leaves none that spells it.
-use mathlib.Core.Path.{_≡_, refl, sym, ap, _∙_}
+use mathlib.Core.Path.{_≡_, sym, ap, _∙_}
 use mathlib.Core.Bool.{Bool, true, false, cond}
 use mathlib.Core.List.{List}
 use Prim.Native.Nat.{ℕ, _≤_}
@@ -16,7 +16,7 @@ use Rattle.sheet.specs.declared.refusal.Refusal.{Refusal}
 use Rattle.sheet.specs.Dues.{refuse}
 use Rattle.sheet.specs.Faults.{number}
 use Rattle.sheet.specs.Sheet.{Tables, Read, Read-into, sheet, short, reading, written}
-use Rattle.sheet.specs.Grammar.{JobSheet, Well-formed, spell, meaning, Accepts-exactly-what-is-spelled}
+use Rattle.sheet.specs.Grammar.{meaning, Accepts-exactly-what-is-spelled}
 use Rattle.sheet.proofs.Answered.{agree-ok, agree-err, passed}
 use Rattle.sheet.proofs.Accepted.{accepted}
 use Rattle.sheet.proofs.Written.{written as its-reading}

@@ -1,4 +1,4 @@
-use mathlib.Core.Path.{refl, sym, ap, _∙_}
+use mathlib.Core.Path.{refl}
 use native.Mathlib.Omega.{arith}
 use Rattle.sheet.specs.Actions.{checked, named}
 use Rattle.sheet.proofs.Answered.{agree-ok, agree-err, agree-at-ok, agree-at-err}

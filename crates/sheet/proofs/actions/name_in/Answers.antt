@@ -1,9 +1,8 @@
-use mathlib.Core.Path.{_≡_, sym, ap, _∙_}
+use mathlib.Core.Path.{sym, ap, _∙_}
 use mathlib.Core.List.{[]}
 use Prim.Native.Nat.{_+_}
 use native.Mathlib.Omega.{arith}
 use lib.ListN.{length, getD, drop}
-use Rattle.sheet.specs.Actions.{action-name}
 use Rattle.sheet.specs.Lines.{lines}
 use Rattle.sheet.specs.Words.{words}
 use Rattle.sheet.proofs.ActionNames.{accepted-limits, short-name, line-at}

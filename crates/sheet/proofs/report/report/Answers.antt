@@ -1,4 +1,4 @@
-use mathlib.Core.Path.{refl, sym}
+use mathlib.Core.Path.{refl}
 use lib.ListN.{length}
 use Rattle.sheet.specs.Actions.{checked}
 use Rattle.sheet.specs.Report.{Written, report-text}

@@ -1,6 +1,5 @@
 use mathlib.Core.Path.{ap}
 use mathlib.Core.List.{[], _∷_, _++_}
-use native.Mathlib.Omega.{arith}
 use lib.Chars.{codes}
 use lib.Dec.{ltb}
 use lib.ListN.{length}

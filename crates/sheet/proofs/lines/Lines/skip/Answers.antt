@@ -1,6 +1,4 @@
-use mathlib.Core.Path.{ap, _∙_}
-use native.Mathlib.Omega.{arith}
-use lib.ListN.{drop}
+use mathlib.Core.Path.{_∙_}
 use Rattle.sheet.specs.Readers.{to-come}
 use Rattle.sheet.proofs.Naming.{rest-drop}
 use Rattle.sheet.proofs.ActionNames.{next-rest}
