@@ -1,7 +1,8 @@
 //! The report: what is printed of a verdict, or of a sheet that is refused.
 ghost use mathlib.Core.Path.{_≡_};
+ghost use Prim.Native.Nat.{_≤_};
 ghost use lib.ListN.{length};
-ghost use Rattle.std.specs.Vec.{refused};
+ghost use Rattle.std.specs.Vec.{made, refused};
 ghost use Rattle.sheet.specs.Report.{report-text, refusal-text, Written, Reports-the-sheet};
 use crate::fault::Fault;
 use crate::refusal::Refusal;
@@ -19,6 +20,7 @@ use search::verdict::Verdict;
 pub fn report(sheet: &[u8], verdict: Verdict, plan: &[u8], buffer: &mut [u8]) -> Result<usize, Fault>
     ensures value { λ r. ⌜ Written (report-text (now (sheet .entry)) verdict (now (plan .entry)) (length (now (buffer .entry))))
         (now (buffer .entry)) (now (buffer .exit)) r ⌝ }
+    ensures within { λ r. ⌜ made r (λ n. n ≤ 800) ⌝ }
     ensures same { λ r. ⌜ refused r (λ _. now (buffer .exit) ≡ now (buffer .entry)) ⌝ }
     ensures law { λ r. ⌜ Reports-the-sheet (now (sheet .entry)) verdict (now (plan .entry)) (now (buffer .entry)) (now (buffer .exit)) r ⌝ }
 {
@@ -38,6 +40,7 @@ pub fn report(sheet: &[u8], verdict: Verdict, plan: &[u8], buffer: &mut [u8]) ->
 /// Answers how many bytes were written. Refused where the buffer has fewer than 800 bytes.
 pub fn write_refusal(refusal: Refusal, buffer: &mut [u8]) -> Result<usize, Fault>
     ensures value { λ r. ⌜ Written (refusal-text refusal (length (now (buffer .entry)))) (now (buffer .entry)) (now (buffer .exit)) r ⌝ }
+    ensures within { λ r. ⌜ made r (λ n. n ≤ 800) ⌝ }
     ensures same { λ r. ⌜ refused r (λ _. now (buffer .exit) ≡ now (buffer .entry)) ⌝ }
 {
     if buffer.len() < 800 {

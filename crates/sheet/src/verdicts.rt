@@ -4,7 +4,7 @@ ghost use mathlib.Core.Path.{_≡_};
 ghost use Prim.Native.Nat.{_+_, _*_, _≤_};
 ghost use lib.ListN.{length, take};
 ghost use Rattle.std.specs.Joined.{joined};
-ghost use Rattle.std.specs.Vec.{refused};
+ghost use Rattle.std.specs.Vec.{made, refused};
 ghost use Rattle.std.specs.declared.result.Result.the-variants.{Ok, Err};
 ghost use Rattle.sheet.specs.declared.fault.Fault.the-variants.{Mismatch};
 ghost use Rattle.sheet.specs.Actions.{Accepted, action-name};
@@ -21,6 +21,7 @@ pub fn write_verdict(sheet: &[u8], counts: Counts, verdict: Verdict, plan: &[u8]
     requires accepted { ⌜ Accepted (now sheet) counts ⌝ }
     requires room { ⌜ 800 ≤ length (now buffer) ⌝ }
     ensures value { λ r. ⌜ Written (text-for (now (sheet .entry)) counts verdict (now (plan .entry))) (now (buffer .entry)) (now (buffer .exit)) r ⌝ }
+    ensures within { λ r. ⌜ made r (λ n. n ≤ 800) ⌝ }
     ensures same { λ r. ⌜ refused r (λ _. now (buffer .exit) ≡ now (buffer .entry)) ⌝ }
 {
     match verdict {
@@ -41,6 +42,7 @@ fn write_plan(sheet: &[u8], counts: Counts, count: usize, plan: &[u8], buffer: &
     ensures value { λ r. ⌜ Written (cond (fits-plan (counts .actions) count (now (plan .entry)))
         (Ok (plan-text (action-name (now (sheet .entry)) (counts .facts)) count (now (plan .entry)))) (Err Mismatch))
         (now (buffer .entry)) (now (buffer .exit)) r ⌝ }
+    ensures within { λ r. ⌜ made r (λ n. n ≤ 800) ⌝ }
     ensures same { λ r. ⌜ refused r (λ _. now (buffer .exit) ≡ now (buffer .entry)) ⌝ }
 {
     if !is_plan(counts.actions, count, plan) {
@@ -81,6 +83,7 @@ fn put_names(sheet: &[u8], counts: Counts, plan: &[u8], buffer: &mut [u8], from:
     requires room { ⌜ from + 25 * length (now plan) ≤ length (now buffer) ⌝ }
     ensures after { λ r. ⌜ Added (now (buffer .entry)) from (joined (λ a. ended (action-name (now (sheet .entry)) (counts .facts) a)) (now (plan .entry)))
         (now (buffer .exit)) r ⌝ }
+    ensures within { λ r. ⌜ r ≤ from + 25 * length (now (plan .entry)) ⌝ }
 {
     let mut at = from;
     for action in plan {

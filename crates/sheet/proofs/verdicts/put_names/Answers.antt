@@ -30,4 +30,5 @@ loop-action-again c =
 pub returns : need.returns
 returns c = record {
   after = added-as _ _ _ _ _ _ (ap (joined (λ a. ended (action-name (c .args .sheet .now) (c .args .counts .facts) a))) (take-all (c .loop-action .action-index) (c .args .plan .now) (omega arith))) (c .loop-action .inv .2);
+  within = omega (arith, c .loop-action .inv .0, c .loop-action .kept .action-index-end);
 }
