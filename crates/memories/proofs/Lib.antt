@@ -1,0 +1,2 @@
+pub mod Recalling
+pub mod Keeping

@@ -1,0 +1,8 @@
+//! Memories of states from which the goals were not reached: a memory answers whether a state is known with at least so many actions left.
+//! A memory may forget what it was told to keep, and it never invents.
+
+pub mod memory;
+
+pub mod row;
+
+pub mod list;
