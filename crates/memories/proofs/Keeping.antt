@@ -54,29 +54,29 @@ kept room [] s n s′ n′ = go (ltb 0 room)
   where
     go : (b : Bool) → among (cond b (row s n ∷ []) []) s′ n′ ≡ true → (false ≡ true) ⊎ ((s′ ≡ s) × (n′ ≡ n))
     go true e = elim (or-cases (holds (row s n) s′ n′) false e) [
-        | inl h ↦ let b = and-parts (eqb s s′) (eqb n n′) h in inr (sym (eqb-true s s′ (b .0)), sym (eqb-true n n′ (b .1)))
-        | inr h ↦ inl h
-      ]
+      | inl h ↦ let b = and-parts (eqb s s′) (eqb n n′) h in inr (sym (eqb-true s s′ (b .0)), sym (eqb-true n n′ (b .1)))
+      | inr h ↦ inl h
+    ]
     go false e = inl e
 kept room (r ∷ rs) s n s′ n′ = go (eqb (r .state) s) refl (kept (room - 1) rs s n s′ n′)
   where
     go : (b : Bool) → eqb (r .state) s ≡ b → (among (keep-row (room - 1) rs s n) s′ n′ ≡ true → (among rs s′ n′ ≡ true) ⊎ ((s′ ≡ s) × (n′ ≡ n)))
         → among (cond b (row s (max (r .left) n) ∷ rs) (r ∷ keep-row (room - 1) rs s n)) s′ n′ ≡ true → ((holds r s′ n′ || among rs s′ n′) ≡ true) ⊎ ((s′ ≡ s) × (n′ ≡ n))
     go true q later e = elim (or-cases (holds (row s (max (r .left) n)) s′ n′) (among rs s′ n′) e) [
-        | inl h ↦
-            let b = and-parts (eqb s s′) (eqb (max (r .left) n) n′) h in
-            let same = eqb-true s s′ (b .0) in
-            let top = eqb-true (max (r .left) n) n′ (b .1) in
-            elim (cases-lt (r .left) n) [
-              | inl lt ↦ inr (sym same, omega arith)
-              | inr le ↦ inl (or-left (holds r s′ n′) (among rs s′ n′) (rw (eq-eqb (r .state) s′ (eqb-true (r .state) s q ∙ same), eq-eqb (r .left) n′ (omega arith))))
-            ]
-        | inr h ↦ inl (or-right (holds r s′ n′) (among rs s′ n′) h)
-      ]
+      | inl h ↦
+          let b = and-parts (eqb s s′) (eqb (max (r .left) n) n′) h in
+          let same = eqb-true s s′ (b .0) in
+          let top = eqb-true (max (r .left) n) n′ (b .1) in
+          elim (cases-lt (r .left) n) [
+            | inl lt ↦ inr (sym same, omega arith)
+            | inr le ↦ inl (or-left (holds r s′ n′) (among rs s′ n′) (rw (eq-eqb (r .state) s′ (eqb-true (r .state) s q ∙ same), eq-eqb (r .left) n′ (omega arith))))
+          ]
+      | inr h ↦ inl (or-right (holds r s′ n′) (among rs s′ n′) h)
+    ]
     go false q later e = elim (or-cases (holds r s′ n′) (among (keep-row (room - 1) rs s n) s′ n′) e) [
-        | inl h ↦ inl (or-left (holds r s′ n′) (among rs s′ n′) h)
-        | inr h ↦ elim (later h) [ inl o ↦ inl (or-right (holds r s′ n′) (among rs s′ n′) o) | inr p ↦ inr p ]
-      ]
+      | inl h ↦ inl (or-left (holds r s′ n′) (among rs s′ n′) h)
+      | inr h ↦ elim (later h) [ inl o ↦ inl (or-right (holds r s′ n′) (among rs s′ n′) o) | inr p ↦ inr p ]
+    ]
 
 -- the first row of a state
 pub place-is : (rs : List Row) (s at : ℕ) → at ≤ length rs → ((i : ℕ) → i < at → getD rs i no-row .state ≡ s → ⊥) → (at < length rs → getD rs at no-row .state ≡ s) → at ≡ place-of rs s
@@ -120,9 +120,9 @@ added room (r ∷ rs) s n le = go (eqb (r .state) s) (added (room - 1) rs s n) l
 
     less : ltb (length rs) (room - 1) ≡ ltb (suc (length rs)) room
     less = elim (cases-lt (suc (length rs)) room) [
-        | inl lt ↦ lt-ltb (length rs) (room - 1) (omega arith) ∙ sym (lt-ltb (suc (length rs)) room lt)
-        | inr past ↦ le-ltb (length rs) (room - 1) (omega arith) ∙ sym (le-ltb (suc (length rs)) room past)
-      ]
+      | inl lt ↦ lt-ltb (length rs) (room - 1) (omega arith) ∙ sym (lt-ltb (suc (length rs)) room lt)
+      | inr past ↦ le-ltb (length rs) (room - 1) (omega arith) ∙ sym (le-ltb (suc (length rs)) room past)
+    ]
 
     go : (b : Bool) → (length rs ≤ place-of rs s → keep-row (room - 1) rs s n ≡ cond (ltb (length rs) (room - 1)) (rs ++ (row s n ∷ [])) rs)
         → suc (length rs) ≤ cond b 0 (suc (place-of rs s))

@@ -29,9 +29,9 @@ module _ (P : Pairs) (s n : ℕ) where
   unfolding recalls-below
   recalls-at zero m le lt e = absurd (omega arith)
   recalls-at (suc t) m le lt e = elim (cases-eq m t) [
-      | inl q ↦ or-left (leb n t && P s t) (recalls-below t P s n) (and-from (leb n t) (P s t) (le-leb n t (omega arith)) (subst (λ (k : ℕ). P s k ≡ true) q e))
-      | inr ne ↦ or-right (leb n t && P s t) (recalls-below t P s n) (recalls-at t m le (omega arith) e)
-    ]
+    | inl q ↦ or-left (leb n t && P s t) (recalls-below t P s n) (and-from (leb n t) (P s t) (le-leb n t (omega arith)) (subst (λ (k : ℕ). P s k ≡ true) q e))
+    | inr ne ↦ or-right (leb n t && P s t) (recalls-below t P s n) (recalls-at t m le (omega arith) e)
+  ]
 
   pub recalled : recalls P s n ≡ true → Recalled 256
   recalled e = recalled-below 256 e
@@ -45,3 +45,12 @@ module _ (P : Pairs) (s n : ℕ) where
       go : (b : Bool) → (b ≡ true → Recalled 256) → b ≡ false
       go true h = let w = h refl in absurd (never (w .left) (w .enough) (w .there))
       go false h = refl
+
+-- only the pairs of the state matter
+pub recalls-alike : (P Q : Pairs) (s n : ℕ) → ((m : ℕ) → P s m ≡ Q s m) → recalls P s n ≡ recalls Q s n
+unfolding recalls-below
+recalls-alike P Q s n same = go 256
+  where
+    go : (top : ℕ) → recalls-below top P s n ≡ recalls-below top Q s n
+    go zero = refl
+    go (suc m) = rw (same m, go m)

@@ -1,3 +1,4 @@
 pub mod Pairs
 pub mod Rows
 pub mod Lists
+pub mod Slots

@@ -1,4 +1,4 @@
-/// A pair that a memory holds: from the state, the goals are not reached by up to `left` actions.
+/// A pair that a memory holds: a state and a number of actions left.
 #[derive(Clone, Copy)]
 pub struct Row {
     pub state: u64,

@@ -3,16 +3,19 @@ ghost use mathlib.Core.List.{[]};
 ghost use Prim.Native.Nat.{_≤_};
 ghost use Rattle.memories.specs.Lists.{rows-of};
 ghost use Rattle.memories.specs.Rows.{among, keep-row, place-of};
-use super::ListMemory;
 use super::super::memory::Memory;
 use super::super::row::Row;
+use super::ListMemory;
 
 impl ListMemory {
     /// A memory with no row filled.
     pub fn new() -> ListMemory
         ensures value { λ r. ⌜ rows-of r ≡ [] ⌝ }
     {
-        ListMemory { rows: [Row { state: 0, left: 0 }; 256], count: 0 }
+        ListMemory {
+            rows: [Row { state: 0, left: 0 }; 256],
+            count: 0,
+        }
     }
 
     /// The rows that are filled, in order.
