@@ -78,10 +78,10 @@ spelled-name v w a below =
     let is : name n ≡ true = all-getD (λ n. name n ≡ true) (v .acts) a [] below (w .acts-named .0) in
     let one : 1 + F ≡ suc F = omega arith in
     let its : getD (lines (line Job ws ++ R1)) (1 + F + a) [] ≡ unwords (text Act ∷ n ∷ []) =
-        sym (getD-drop (1 + F) (lines (line Job ws ++ R1)) a [])
-        ∙ (λ i. getD (drop (one i) (its-lines Job ws R1 tight i)) a [])
-        ∙ ap (λ ls. getD ls a []) (past Fact (v .facts) R2 (w .facts-named .0))
-        ∙ nth Act (v .acts) R3 a below (w .acts-named .0) in
+    sym (getD-drop (1 + F) (lines (line Job ws ++ R1)) a [])
+    ∙ (λ i. getD (drop (one i) (its-lines Job ws R1 tight i)) a [])
+    ∙ ap (λ ls. getD ls a []) (past Fact (v .facts) R2 (w .facts-named .0))
+    ∙ nth Act (v .acts) R3 a below (w .acts-named .0) in
     ap (λ l. getD (words l) 1 []) its ∙ ap (λ vs. getD vs 1 []) (words-unwords (text Act) (n ∷ []) refl (tight-name n is, tt))
 
 pub accepted-limits : (bs : List ℕ) (c : Counts) → Accepted bs c → Limits c

@@ -35,6 +35,6 @@ lawful bs before after (Ok c) h =
     (q .0, q .1, q .2, p .2 .0 ∙ ap (λ y. y .counts) (q .3), p .2 .1 ∙ ap (λ y. written (y .tables) before) (q .3))
 lawful bs before after (Err e) h = λ high v w s.
     let is = lined (short before) fault.TableTooShort (sheet bs) e (omega arith) high
-        (lined (ltb 32768 (length bs)) fault.TooLong _ e (omega arith) high (agree-err _ (reading bs before) e h)) in
+    (lined (ltb 32768 (length bs)) fault.TooLong _ e (omega arith) high (agree-err _ (reading bs before) e h)) in
     let both : _≡_ {A = Result Read Refusal} (Err e) (Ok (meaning v)) = sym is ∙ ap sheet s ∙ its-reading v w in
     grind arith

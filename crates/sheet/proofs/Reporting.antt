@@ -57,7 +57,7 @@ pub name-more : (g : ℕ → List ℕ) (plan n : List ℕ) (i : ℕ) (a b c d : 
 name-more g plan n i a b c d from r s t h e p q u =
     let last = added-as b d (n ++ 10 ∷ []) (ended (g (getD plan i 0))) r t (ap ended e) (added-more b c d n (10 ∷ []) r s t q u) in
     added-as a d _ _ from t (one-more (λ x. ended (g x)) plan i h)
-      (added-more a b d (joined (λ x. ended (g x)) (take i plan)) (ended (g (getD plan i 0))) from r t p last)
+    (added-more a b d (joined (λ x. ended (g x)) (take i plan)) (ended (g (getD plan i 0))) from r t p last)
 
 -- a text that was added to nothing is what the call has written
 pub written-at : (told : Result (List ℕ) Fault) (t before after : List ℕ) (r : ℕ) → told ≡ Ok t → Added before 0 t after r → Written told before after (Ok r)

@@ -17,7 +17,12 @@ use search::verdict::Verdict;
 ///
 /// Refused where the search is blank, where the buffer has fewer than 800 bytes, and where the sheet is refused or the plan
 /// is not one of it: fewer numbers than N, more than 30, or a number that is no action's.
-pub fn report(sheet: &[u8], verdict: Verdict, plan: &[u8], buffer: &mut [u8]) -> Result<usize, Fault>
+pub fn report(
+    sheet: &[u8],
+    verdict: Verdict,
+    plan: &[u8],
+    buffer: &mut [u8],
+) -> Result<usize, Fault>
     ensures value { λ r. ⌜ Written (report-text (now (sheet .entry)) verdict (now (plan .entry)) (length (now (buffer .entry))))
         (now (buffer .entry)) (now (buffer .exit)) r ⌝ }
     ensures within { λ r. ⌜ made r (λ n. n ≤ 800) ⌝ }

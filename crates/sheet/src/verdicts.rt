@@ -17,7 +17,13 @@ use crate::text::put_labelled;
 use search::verdict::Verdict;
 
 /// Writes the text of a verdict on an accepted sheet.
-pub fn write_verdict(sheet: &[u8], counts: Counts, verdict: Verdict, plan: &[u8], buffer: &mut [u8]) -> Result<usize, Fault>
+pub fn write_verdict(
+    sheet: &[u8],
+    counts: Counts,
+    verdict: Verdict,
+    plan: &[u8],
+    buffer: &mut [u8],
+) -> Result<usize, Fault>
     requires accepted { ⌜ Accepted (now sheet) counts ⌝ }
     requires room { ⌜ 800 ≤ length (now buffer) ⌝ }
     ensures value { λ r. ⌜ Written (text-for (now (sheet .entry)) counts verdict (now (plan .entry))) (now (buffer .entry)) (now (buffer .exit)) r ⌝ }
@@ -36,7 +42,13 @@ pub fn write_verdict(sheet: &[u8], counts: Counts, verdict: Verdict, plan: &[u8]
 }
 
 /// Writes `found N` and the names of the first N actions of the plan.
-fn write_plan(sheet: &[u8], counts: Counts, count: usize, plan: &[u8], buffer: &mut [u8]) -> Result<usize, Fault>
+fn write_plan(
+    sheet: &[u8],
+    counts: Counts,
+    count: usize,
+    plan: &[u8],
+    buffer: &mut [u8],
+) -> Result<usize, Fault>
     requires accepted { ⌜ Accepted (now sheet) counts ⌝ }
     requires room { ⌜ 800 ≤ length (now buffer) ⌝ }
     ensures value { λ r. ⌜ Written (cond (fits-plan (counts .actions) count (now (plan .entry)))

@@ -23,7 +23,7 @@ returns c =
     let both = added-more (c .args .buffer .now) (c .put-labelled-at .last .buffer) (c .put-labelled-at-2 .last .buffer) N L 0 _ _ one two in
     record {
       value = written-at _ _ (c .args .buffer .now) _ _ (cond-false (ltb room 800) _ _ (le-ltb room 800 (c .if-buffer-lt800 .left)))
-        (added-more (c .args .buffer .now) (c .put-labelled-at-2 .last .buffer) (c .put .last .buffer) (N ++ L) (10 ∷ []) 0 _ _ both (c .put .ensures .after));
+          (added-more (c .args .buffer .now) (c .put-labelled-at-2 .last .buffer) (c .put .last .buffer) (N ++ L) (10 ∷ []) 0 _ _ both (c .put .ensures .after));
       within = omega (arith, c .put .ensures .after .0, c .put-labelled-at-2 .ensures .within, c .put-labelled-at .ensures .within);
       same = tt;
     }

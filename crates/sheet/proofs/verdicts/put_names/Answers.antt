@@ -21,11 +21,12 @@ pub loop-action-again : need.loop-action-again
 loop-action-again c =
     let i = c .loop-action .action-index in
     let plan = c .args .plan .now in
-    let b = below-next (c .args .counts .actions) plan i (c .loop-action-test .taken) (c .loop-action .inv .1) in
-    (omega (arith, c .put-at-in-loop-action .ensures .after .0, c .put-at .ensures .after .0, c .name-in .ensures .within, c .loop-action .inv .0),
-     b .1,
-     name-more (action-name (c .args .sheet .now) (c .args .counts .facts)) plan (c .name-in .result .now) i (c .args .buffer .now) (c .loop-action .buffer) (c .put-at .last .buffer) (c .put-at-in-loop-action .last .buffer)
-       (c .args .from) (c .loop-action .at) (c .put-at .result) (c .put-at-in-loop-action .result) (c .loop-action-test .taken) (c .name-in .ensures .value) (c .loop-action .inv .2) (c .put-at .ensures .after) (c .put-at-in-loop-action .ensures .after))
+    let b = below-next (c .args .counts .actions) plan i (c .loop-action-test .taken) (c .loop-action .inv .1) in (
+      omega (arith, c .put-at-in-loop-action .ensures .after .0, c .put-at .ensures .after .0, c .name-in .ensures .within, c .loop-action .inv .0),
+      b .1,
+      name-more (action-name (c .args .sheet .now) (c .args .counts .facts)) plan (c .name-in .result .now) i (c .args .buffer .now) (c .loop-action .buffer) (c .put-at .last .buffer) (c .put-at-in-loop-action .last .buffer)
+          (c .args .from) (c .loop-action .at) (c .put-at .result) (c .put-at-in-loop-action .result) (c .loop-action-test .taken) (c .name-in .ensures .value) (c .loop-action .inv .2) (c .put-at .ensures .after) (c .put-at-in-loop-action .ensures .after),
+    )
 
 pub returns : need.returns
 returns c = record {

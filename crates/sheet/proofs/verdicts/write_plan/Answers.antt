@@ -27,7 +27,7 @@ returns c =
     let name = action-name bs (k .facts) in
     let head = added-more (c .args .buffer .now) (c .put-labelled-at .last .buffer) (c .put-at .last .buffer) (codes "found " ++ decimal n) (10 ∷ []) 0 _ _ (c .put-labelled-at .ensures .after) (c .put-at .ensures .after) in
     let all = added-more (c .args .buffer .now) (c .put-at .last .buffer) (c .put-names .last .buffer) (ended (codes "found " ++ decimal n)) (joined (λ a. ended (name a)) (take n plan)) 0 _ _ head
-        (added-as _ _ _ _ _ _ (ap (λ m. joined (λ a. ended (name a)) (take m plan)) (sub-zero n)) (c .put-names .ensures .after)) in
+    (added-as _ _ _ _ _ _ (ap (λ m. joined (λ a. ended (name a)) (take m plan)) (sub-zero n)) (c .put-names .ensures .after)) in
     let whole = c .if-not-is-plan .ensures tt .value in
     let fits = c .if-not-is-plan .ensures tt .within refl in
     record {

@@ -18,7 +18,7 @@ returns-in-Unfinished c = record {
 pub returns-in-None : need.returns-in-None
 returns-in-None c = record {
   value = written-at _ _ (c .args .buffer .now) _ _ (ap (λ v. text-for (c .args .sheet .now) (c .args .counts) v (c .args .plan .now)) (c .in-None .is))
-    (added-more (c .args .buffer .now) (c .put-labelled-at .last .buffer) _ (codes "none " ++ decimal (c .in-None .bound)) (10 ∷ []) _ _ _ (c .put-labelled-at .ensures .after) (c .put-in-None .ensures .after));
+      (added-more (c .args .buffer .now) (c .put-labelled-at .last .buffer) _ (codes "none " ++ decimal (c .in-None .bound)) (10 ∷ []) _ _ _ (c .put-labelled-at .ensures .after) (c .put-in-None .ensures .after));
   within = omega (arith, c .put-labelled-at .ensures .within, c .put-in-None .ensures .after .0);
   same = tt;
 }
