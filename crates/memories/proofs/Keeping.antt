@@ -108,6 +108,18 @@ stands (r ∷ rs) s lt = go (eqb (r .state) s) refl (stands rs s) lt
     go true q later lt = eqb-true (r .state) s q
     go false q later lt = later (omega arith)
 
+-- a state without a place stands nowhere
+pub absent : (rs : List Row) (s : ℕ) → length rs ≤ place-of rs s → (i : ℕ) → i < length rs → getD rs i no-row .state ≡ s → ⊥
+unfolding place-of
+absent [] s le i lt e = omega arith
+absent (r ∷ rs) s le i lt e = go (eqb (r .state) s) refl (absent rs s) i lt e le
+  where
+    go : (b : Bool) → eqb (r .state) s ≡ b → (length rs ≤ place-of rs s → (i : ℕ) → i < length rs → getD rs i no-row .state ≡ s → ⊥)
+        → (i : ℕ) → i < suc (length rs) → getD (r ∷ rs) i no-row .state ≡ s → suc (length rs) ≤ cond b 0 (suc (place-of rs s)) → ⊥
+    go true q later i lt e le = omega arith
+    go false q later zero lt e le = eqb-false (r .state) s q e
+    go false q later (suc i) lt e le = later (omega arith) i (omega arith) e
+
 -- a keep of a new state
 pub added : (room : ℕ) (rs : List Row) (s n : ℕ) → length rs ≤ place-of rs s → keep-row room rs s n ≡ cond (ltb (length rs) room) (rs ++ (row s n ∷ [])) rs
 unfolding place-of keep-row

@@ -1,3 +1,5 @@
 pub mod Recalling
 pub mod Keeping
 pub mod Slotting
+pub mod Chaining
+pub mod Listing

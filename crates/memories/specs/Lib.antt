@@ -1,4 +1,5 @@
 pub mod Pairs
 pub mod Rows
-pub mod Lists
 pub mod Slots
+pub mod Chains
+pub mod Lists

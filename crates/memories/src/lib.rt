@@ -5,6 +5,8 @@ pub mod list;
 pub mod memory;
 pub mod none;
 pub mod row;
+
+pub mod slots;
 pub mod slot;
 #[cfg(test)]
 mod tests;

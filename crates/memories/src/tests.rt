@@ -5,6 +5,7 @@ use super::none::NoMemory;
 use super::none::NoneIsMemory;
 use super::slot::SlotIsMemory;
 use super::slot::SlotMemory;
+use super::slots::slot_of;
 use std::test::*;
 
 // A memory that keeps its newest pair recalls it, and no more than it.
@@ -58,8 +59,8 @@ fn a_full_list_takes_no_new_state() -> Result<(), Fail> {
 #[test]
 fn two_states_share_a_slot() -> Result<(), Fail> {
     let mut memory = SlotMemory::new();
-    check_eq(SlotMemory::slot_of(0x0101), SlotMemory::slot_of(0))?;
-    check_eq(SlotMemory::slot_of(0xff00_0000_0000_0001), 0xfe)?;
+    check_eq(slot_of(0x0101), slot_of(0))?;
+    check_eq(slot_of(0xff00_0000_0000_0001), 0xfe)?;
     memory.keep(0, 3);
     memory.keep(0x0101, 2);
     check(!memory.recall(0, 0))?;

@@ -1,11 +1,13 @@
 ghost use mathlib.Core.Path.{_≡_};
 ghost use mathlib.Core.List.{[]};
-ghost use Prim.Native.Nat.{_≤_};
+ghost use Prim.Native.Nat.{ℕ, _≤_};
+ghost use lib.ListN.{getD, length};
 ghost use Rattle.memories.specs.Lists.{rows-of};
 ghost use Rattle.memories.specs.Rows.{among, keep-row, place-of};
 use super::super::memory::Memory;
 use super::super::row::Row;
 use super::ListMemory;
+use super::super::slots::slot_of;
 
 impl ListMemory {
     /// A memory with no row filled.
@@ -15,6 +17,8 @@ impl ListMemory {
         ListMemory {
             rows: [Row { state: 0, left: 0 }; 256],
             count: 0,
+            heads: ends(),
+            links: ends(),
         }
     }
 
@@ -30,11 +34,14 @@ impl ListMemory {
         ensures value { λ r. ⌜ r ≡ place-of (rows-of (now (self .entry))) state ⌝ }
         ensures within { λ r. ⌜ r ≤ now (self .entry) .count ⌝ }
     {
-        let rows = self.rows();
-        for (at, row) in rows.iter().enumerate() {
-            if row.state == state {
+        let slot = slot_of(state);
+        let mut upto = self.heads[slot] as usize;
+        while upto > 0 {
+            let at = upto - 1;
+            if self.rows[at].state == state {
                 return at;
             }
+            upto = self.links[at] as usize;
         }
         self.count
     }
@@ -48,13 +55,12 @@ pub impl Memory for ListMemory as ListIsMemory {
     ghost empties = { λ _ y. rows-of y ≡ [] };
 
     fn recall(&self, state: u64, left: u8) -> bool {
-        let rows = self.rows();
-        for row in rows {
-            if row.state == state && row.left >= left {
-                return true;
-            }
+        let at = self.place(state);
+        if at >= self.count {
+            return false;
         }
-        false
+        let row = self.rows[at];
+        row.left >= left
     }
 
     fn keep(&mut self, state: u64, left: u8) {
@@ -64,12 +70,24 @@ pub impl Memory for ListMemory as ListIsMemory {
                 self.rows[at].left = left;
             }
         } else if at < 256 {
+            let slot = slot_of(state);
             self.rows[at] = Row { state, left };
+            self.links[at] = self.heads[slot];
+            self.heads[slot] = at as u16 + 1;
             self.count = at + 1;
         }
     }
 
     fn empty(&mut self) {
+        self.heads = ends();
         self.count = 0;
     }
+}
+
+// No row in any chain.
+fn ends() -> [u16; 256]
+    ensures long { λ r. ⌜ length r ≡ 256 ⌝ }
+    ensures value { λ r. ⌜ ((h : ℕ) → getD r h 0 ≡ 0) ⌝ }
+{
+    [0; 256]
 }

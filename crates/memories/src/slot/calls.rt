@@ -1,9 +1,9 @@
-ghost use Prim.Native.Nat.{_<_};
 ghost use mathlib.Core.Path.{_≡_};
 ghost use Rattle.memories.specs.Pairs.{recalls};
-ghost use Rattle.memories.specs.Slots.{replace-row, slot-of, slotted, taken, vacant-rows};
+ghost use Rattle.memories.specs.Slots.{replace-row, slotted, taken, vacant-rows};
 use super::super::memory::Memory;
 use super::super::row::Row;
+use super::super::slots::slot_of;
 use super::SlotMemory;
 
 impl SlotMemory {
@@ -20,18 +20,6 @@ impl SlotMemory {
     {
         &self.rows
     }
-
-    /// The slot of a state: the exclusive-or of its eight bytes.
-    pub fn slot_of(state: u64) -> usize
-        ensures value { λ r. ⌜ r ≡ slot-of state ⌝ }
-        ensures within { λ r. ⌜ r < 256 ⌝ }
-    {
-        let mut slot: u64 = 0;
-        for i in 0..8u32 {
-            slot ^= (state >> (8 * i)) & 0xff;
-        }
-        slot as usize
-    }
 }
 
 pub impl Memory for SlotMemory as SlotIsMemory {
@@ -42,12 +30,12 @@ pub impl Memory for SlotMemory as SlotIsMemory {
     ghost empties = { λ _ y. y .rows ≡ vacant-rows };
 
     fn recall(&self, state: u64, left: u8) -> bool {
-        let slot = SlotMemory::slot_of(state);
+        let slot = slot_of(state);
         recalled(self.rows[slot], state, left)
     }
 
     fn keep(&mut self, state: u64, left: u8) {
-        let slot = SlotMemory::slot_of(state);
+        let slot = slot_of(state);
         self.rows[slot] = Some(Row { state, left });
     }
 

@@ -1,25 +1,36 @@
-use mathlib.Core.Path.{_≡_, ap}
+use mathlib.Core.Path.{_≡_, sym, subst}
+use Prim.Native.Nat.{ℕ, _-_, _<_}
 use native.Mathlib.Omega.{arith}
-use Prim.Native.Nat.{ℕ}
-use lib.ListN.{length}
-use Rattle.std.proofs.shelf.Lists.{length-take-le}
-use Rattle.memories.proofs.Keeping.{place-is}
+use lib.ListN.{getD}
+use Rattle.memories.specs.Chains.{state-at}
+use Rattle.memories.proofs.Chaining.{On-chain, from-head, along, found, nowhere}
+use Rattle.memories.proofs.Listing.{chained, fits}
 use Rattle.memories.proofs.list.ListMemory.place.Needs as need
 
-pub returns-then-row-state : need.returns-then-row-state
-returns-then-row-state c =
-    let many = length-take-le (c .args .self .now .count) (c .args .self .now .rows) (omega arith) in
-    let same = ap length (c .rows-rows .ensures .value) in
+pub loop-upto-holds : need.loop-upto-holds
+loop-upto-holds c =
+    let m = c .args .self .now in
+    subst (λ (h : ℕ). On-chain (state-at (m .rows)) (m .count) (c .args .state) (getD (m .heads) h 0)) (sym (c .slot-of-slot .ensures .value)) (from-head (m .rows) (m .count) (m .heads) (m .links) (fits m) (chained m) (c .args .state))
+
+pub loop-upto-again : need.loop-upto-again
+unfolding state-at
+loop-upto-again c =
+    let m = c .args .self .now in
+    along (m .rows) (m .count) (m .heads) (m .links) (fits m) (chained m) (c .args .state) (c .loop-upto .upto) (c .loop-upto-test .taken) (c .loop-upto .inv) (c .if-self-at .left)
+
+pub returns-then-self-at : need.returns-then-self-at
+unfolding state-at
+returns-then-self-at c =
+    let m = c .args .self .now in
     record {
-      value = rw (c .rows-rows .ensures .value) at (place-is (c .rows-rows .result .now) (c .args .state) (c .loop-at .at) (omega arith) (c .loop-at .inv) (λ _. c .if-row-state .taken));
-      within = omega arith;
+      value = found (m .rows) (m .count) (m .heads) (m .links) (fits m) (chained m) (c .args .state) (c .loop-upto .upto - 1) (omega (arith, c .loop-upto .inv .0)) (c .if-self-at .taken);
+      within = omega (arith, c .loop-upto .inv .0);
     }
 
 pub returns : need.returns
 returns c =
-    let many = length-take-le (c .args .self .now .count) (c .args .self .now .rows) (omega arith) in
-    let same = ap length (c .rows-rows .ensures .value) in
+    let m = c .args .self .now in
     record {
-      value = rw (c .rows-rows .ensures .value) at (place-is (c .rows-rows .result .now) (c .args .state) (c .args .self .now .count) (omega arith) (λ i lt. c .loop-at .inv i (omega arith)) (λ lt. absurd (omega arith)));
+      value = nowhere (m .rows) (m .count) (m .heads) (m .links) (fits m) (chained m) (c .args .state) (λ i lt e. let before = c .loop-upto .inv .2 i lt e in omega arith);
       within = omega arith;
     }

@@ -1,8 +1,9 @@
-use mathlib.Core.Path.{_≡_}
-use Prim.Native.Nat.{ℕ, _<_}
-use lib.ListN.{getD}
-use Rattle.memories.proofs.Keeping.{no-row}
+use Rattle.memories.specs.Chains.{state-at}
+use Rattle.memories.proofs.Chaining.{On-chain}
 use Rattle.memories.proofs.list.ListMemory.place.Given as given
 
-abbrev pub Inv-loop-at : given.InvT-loop-at
-Inv-loop-at l = (i : ℕ) → i < l .at → getD (l .rows) i no-row .state ≡ l .state → ⊥
+abbrev pub Inv-loop-upto : given.InvT-loop-upto
+Inv-loop-upto l = On-chain (state-at (l .self .rows)) (l .self .count) (l .state) (l .upto)
+
+abbrev pub μ-loop-upto : given.MeasureT-loop-upto
+μ-loop-upto l = l .upto

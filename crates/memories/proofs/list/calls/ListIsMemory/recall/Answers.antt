@@ -1,11 +1,15 @@
-use mathlib.Core.Path.{sym}
 use native.Mathlib.Omega.{arith}
 use borrow.Author.Needs.{needs}
-use Rattle.memories.proofs.Keeping.{recalls-row, recalls-no-row}
+use Rattle.memories.proofs.Chaining.{recalls-none, recalls-there}
+use Rattle.memories.proofs.Listing.{chained, fits}
 use Rattle.memories.proofs.list.calls.ListIsMemory.recall.Needs as need
 
-pub returns-then-row-left : need.returns-then-row-left
-returns-then-row-left c = record { value = sym (rw (c .rows-rows .ensures .value) at (recalls-row (c .rows-rows .result .now) (c .loop-row .row-index) (c .args .state) (c .args .left) (omega arith) (search needs) (search needs) (search needs))) }
+pub returns-then-at-self : need.returns-then-at-self
+returns-then-at-self c =
+    let m = c .args .self .now in
+    record { value = recalls-none (m .rows) (m .count) (m .heads) (m .links) (fits m) (chained m) (c .args .state) (c .args .left) (c .place-at .result) (c .place-at .ensures .value) (omega arith) }
 
 pub returns : need.returns
-returns c = record { value = sym (rw (c .rows-rows .ensures .value) at (recalls-no-row (c .rows-rows .result .now) (c .args .state) (c .args .left) (λ i lt. c .loop-row .inv i (omega arith)))) }
+returns c =
+    let m = c .args .self .now in
+    record { value = recalls-there (m .rows) (m .count) (m .heads) (m .links) (fits m) (chained m) (c .args .state) (c .args .left) (c .place-at .result) (c .place-at .ensures .value) (omega arith) (search needs) }

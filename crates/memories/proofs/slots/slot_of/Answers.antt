@@ -2,7 +2,7 @@ use mathlib.Core.Path.{refl}
 use native.Mathlib.Omega.{arith}
 use Rattle.memories.specs.Slots.{xor-bytes}
 use Rattle.memories.proofs.Slotting.{xor-bytes-more}
-use Rattle.memories.proofs.slot.SlotMemory.slot_of.Needs as need
+use Rattle.memories.proofs.slots.slot_of.Needs as need
 
 pub loop-i-holds : need.loop-i-holds
 unfolding xor-bytes
