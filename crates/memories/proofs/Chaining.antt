@@ -43,9 +43,9 @@ same-states : (rows : List Row) (at n : ℕ) → state-at (set rows at (row (get
 unfolding state-at
 same-states rows at n = fun-ext (λ i. elim (cases-eq i at) [
   | inl here ↦ elim (cases-lt at (length rows)) [
-      | inl lt ↦ subst (λ (k : ℕ). getD (set rows at (row (getD rows at no-row .state) n)) k no-row .state ≡ getD rows k no-row .state) (sym here) (ap (λ (r : Row). r .state) (getD-set-same rows at (row (getD rows at no-row .state) n) no-row lt))
-      | inr past ↦ ap (λ (rs : List Row). getD rs i no-row .state) (set-past rows at (row (getD rows at no-row .state) n) past)
-    ]
+    | inl lt ↦ subst (λ (k : ℕ). getD (set rows at (row (getD rows at no-row .state) n)) k no-row .state ≡ getD rows k no-row .state) (sym here) (ap (λ (r : Row). r .state) (getD-set-same rows at (row (getD rows at no-row .state) n) no-row lt))
+    | inr past ↦ ap (λ (rs : List Row). getD rs i no-row .state) (set-past rows at (row (getD rows at no-row .state) n) past)
+  ]
   | inr other ↦ ap (λ (r : Row). r .state) (getD-set-other rows at i (row (getD rows at no-row .state) n) no-row other)
 ])
 
@@ -81,9 +81,9 @@ module _ (state new : ℕ → ℕ) (count : ℕ) (heads links : List ℕ) (c : C
   newest′ i lt = elim (cases-eq (slot-of (new i)) (slot-of s)) [
     | inl q ↦ rw (q, head-new) (omega arith)
     | inr other ↦ elim (cases-lt i count) [
-        | inl old ↦ rw (head-old (slot-of (new i)) other, same i old) (c .newest i old)
-        | inr end ↦ absurd (other (ap slot-of (ap new (let e : i ≡ count = omega arith in e) ∙ here)))
-      ]
+      | inl old ↦ rw (head-old (slot-of (new i)) other, same i old) (c .newest i old)
+      | inr end ↦ absurd (other (ap slot-of (ap new (let e : i ≡ count = omega arith in e) ∙ here)))
+    ]
   ]
 
   filled′ : Heads-within (count + 1) heads′
@@ -172,14 +172,13 @@ module _ (rows : List Row) (count : ℕ) (heads links : List ℕ) (fits : count 
   pub along : (upto : ℕ) → 0 < upto → On-chain (state-at rows) count s upto → (state-at rows (upto - 1) ≡ s → ⊥) → On-chain (state-at rows) count s (getD links (upto - 1) 0)
   along upto some here other =
       let lt : upto - 1 < count = omega (arith, here .0) in
-      let slot = here .1 some in
-      (
+      let slot = here .1 some in (
         omega (arith, c .back (upto - 1) lt),
         (λ more. c .linked (upto - 1) lt more ∙ slot),
         (λ i below e.
-          let ne : i ≢ upto - 1 = λ q. other (ap (state-at rows) (sym q) ∙ e) in
-          let before : i < upto - 1 = omega (arith, here .2 i below e) in
-          c .older i (upto - 1) (before, lt, ap slot-of e ∙ sym slot)),
+            let ne : i ≢ upto - 1 = λ q. other (ap (state-at rows) (sym q) ∙ e) in
+            let before : i < upto - 1 = omega (arith, here .2 i below e) in
+            c .older i (upto - 1) (before, lt, ap slot-of e ∙ sym slot)),
       )
 
   -- what is recalled is read off the one row of the state
@@ -215,6 +214,6 @@ chained-added rows count heads links c s n at slot e q fresh room wide tall =
     subst (λ (k : ℕ). Chained (state-at (set rows k (row s n))) (k + 1) (set heads slot (k + 1)) (set links k (getD heads slot 0))) (sym e)
     (subst (λ (h : ℕ). Chained (state-at (set rows count (row s n))) (count + 1) (set heads h (count + 1)) (set links count (getD heads h 0))) (sym q)
     (chained-more (state-at rows) (state-at (set rows count (row s n))) count heads links c s
-      (λ i lt. ap (λ (r : Row). r .state) (getD-set-other rows count i (row s n) no-row (omega arith)))
-      (ap (λ (r : Row). r .state) (getD-set-same rows count (row s n) no-row room))
-      fresh wide tall))
+    (λ i lt. ap (λ (r : Row). r .state) (getD-set-other rows count i (row s n) no-row (omega arith)))
+    (ap (λ (r : Row). r .state) (getD-set-same rows count (row s n) no-row room))
+    fresh wide tall))

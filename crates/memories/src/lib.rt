@@ -5,8 +5,7 @@ pub mod list;
 pub mod memory;
 pub mod none;
 pub mod row;
-
-pub mod slots;
 pub mod slot;
+pub mod slots;
 #[cfg(test)]
 mod tests;

@@ -6,8 +6,8 @@ ghost use Rattle.memories.specs.Lists.{rows-of};
 ghost use Rattle.memories.specs.Rows.{among, keep-row, place-of};
 use super::super::memory::Memory;
 use super::super::row::Row;
-use super::ListMemory;
 use super::super::slots::slot_of;
+use super::ListMemory;
 
 impl ListMemory {
     /// A memory with no row filled.

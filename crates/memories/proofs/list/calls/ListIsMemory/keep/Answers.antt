@@ -20,9 +20,10 @@ ghost-self-then-at-lt256 c =
     let m = c .args .self .now in
     let slot = c .slot-of-slot .ensures .value in
     let k = chained-added (m .rows) (m .count) (m .heads) (m .links) (chained m) (c .args .state) (c .args .left) (c .place-at .result) (c .slot-of-slot .result) (omega arith) slot
-        (missed (m .rows) (m .count) (m .heads) (m .links) (fits m) (chained m) (c .args .state) (c .place-at .result) (c .place-at .ensures .value) (omega arith))
-        (omega arith) (omega arith) (omega arith) in
+    (missed (m .rows) (m .count) (m .heads) (m .links) (fits m) (chained m) (c .args .state) (c .place-at .result) (c .place-at .ensures .value) (omega arith))
+    (omega arith) (omega arith) (omega arith) in
     (omega arith, (simp length-set (m .long), (simp length-set (m .wide), (simp length-set (m .tall), (k .newest, (k .filled, (k .headed, (k .older, (k .back, (k .linked, (k .apart, tt)))))))))))
+
 pub returns-then-self-at : need.returns-then-self-at
 returns-then-self-at c = record { after = keep-raises 256 (c .args .self .now .rows) (c .args .self .now .count) (omega arith) (c .args .state) (c .args .left) (c .place-at .result) (c .place-at .ensures .value) (omega arith) (omega arith) }
 
