@@ -1,0 +1,5 @@
+pub mod Tallies
+pub mod GoalCounting
+pub mod Layering
+pub mod Gaining
+pub mod Growing

@@ -1,0 +1,4 @@
+pub mod Sound
+pub mod Ranges
+pub mod GoalCounts
+pub mod Layers
