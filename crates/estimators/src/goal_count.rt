@@ -6,7 +6,7 @@ ghost use Rattle.sets.specs.Bits.{bit};
 ghost use Rattle.sets.specs.Counts.{count};
 ghost use Rattle.sets.specs.Sets.{has};
 ghost use Rattle.sets.specs.Signs.{is, says};
-use super::estimator::Estimator;
+use crate::estimator::Estimator;
 use sets::facts::FactSet;
 use sets::literals::Literals;
 use tasks::task::Task;

@@ -1,5 +1,5 @@
 ghost use mathlib.Core.Bool.{false};
-use super::estimator::Estimator;
+use crate::estimator::Estimator;
 use tasks::task::Task;
 
 /// An estimator that is never hopeless.

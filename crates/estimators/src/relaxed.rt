@@ -6,7 +6,7 @@ ghost use Rattle.sets.specs.Sets.{among, has};
 ghost use Rattle.sets.specs.Signs.{says};
 ghost use Rattle.std.specs.Orderings.{Decides};
 ghost use Rattle.tasks.specs.Bundle.{meaning};
-use super::estimator::Estimator;
+use crate::estimator::Estimator;
 use sets::actions::ActionSet;
 use sets::literals::Literals;
 use tasks::task::Task;

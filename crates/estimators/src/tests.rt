@@ -1,10 +1,10 @@
-use super::estimator::Estimator;
-use super::goal_count::GoalCount;
-use super::goal_count::GoalCountIsEstimator;
-use super::never::NeverHopeless;
-use super::never::NeverIsEstimator;
-use super::relaxed::Relaxed;
-use super::relaxed::RelaxedIsEstimator;
+use crate::estimator::Estimator;
+use crate::goal_count::GoalCount;
+use crate::goal_count::GoalCountIsEstimator;
+use crate::never::NeverHopeless;
+use crate::never::NeverIsEstimator;
+use crate::relaxed::Relaxed;
+use crate::relaxed::RelaxedIsEstimator;
 use std::test::*;
 use tasks::TableTask;
 use tasks::ban::Ban;

@@ -2,7 +2,7 @@ ghost use Prim.Native.Nat.{ℕ, _-_, _<_, _≤_};
 ghost use Rattle.memories.specs.Chains.{Apart, Heads-cover, Heads-own, Heads-within, Links-cover, Links-own, Links-within, state-at};
 ghost use lib.ListN.{length};
 ghost use mathlib.Core.Path.{_≡_};
-use super::row::Row;
+use crate::row::Row;
 
 mod calls;
 

@@ -1,6 +1,6 @@
 ghost use mathlib.Core.Bool.{false};
 ghost use mathlib.Core.Path.{_≡_};
-use super::memory::Memory;
+use crate::memory::Memory;
 
 /// A memory that keeps nothing and recalls nothing.
 #[derive(Drop)]

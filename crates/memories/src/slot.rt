@@ -1,6 +1,6 @@
 ghost use mathlib.Core.Path.{_≡_};
 ghost use lib.ListN.{length};
-use super::row::Row;
+use crate::row::Row;
 
 mod calls;
 

@@ -1,11 +1,11 @@
-use super::list::ListIsMemory;
-use super::list::ListMemory;
-use super::memory::Memory;
-use super::none::NoMemory;
-use super::none::NoneIsMemory;
-use super::slot::SlotIsMemory;
-use super::slot::SlotMemory;
-use super::slots::slot_of;
+use crate::list::ListIsMemory;
+use crate::list::ListMemory;
+use crate::memory::Memory;
+use crate::none::NoMemory;
+use crate::none::NoneIsMemory;
+use crate::slot::SlotIsMemory;
+use crate::slot::SlotMemory;
+use crate::slots::slot_of;
 use std::test::*;
 
 // A memory that keeps its newest pair recalls it, and no more than it.

@@ -4,9 +4,9 @@ ghost use Prim.Native.Nat.{ℕ, _≤_};
 ghost use lib.ListN.{getD, length};
 ghost use Rattle.memories.specs.Lists.{rows-of};
 ghost use Rattle.memories.specs.Rows.{among, keep-row, place-of};
-use super::super::memory::Memory;
-use super::super::row::Row;
-use super::super::slots::slot_of;
+use crate::memory::Memory;
+use crate::row::Row;
+use crate::slots::slot_of;
 use super::ListMemory;
 
 impl ListMemory {

@@ -1,9 +1,9 @@
 ghost use mathlib.Core.Path.{_≡_};
 ghost use Rattle.memories.specs.Pairs.{recalls};
 ghost use Rattle.memories.specs.Slots.{replace-row, slotted, taken, vacant-rows};
-use super::super::memory::Memory;
-use super::super::row::Row;
-use super::super::slots::slot_of;
+use crate::memory::Memory;
+use crate::row::Row;
+use crate::slots::slot_of;
 use super::SlotMemory;
 
 impl SlotMemory {
