@@ -39,3 +39,8 @@ no-gap false b c h = refl
 pub both : (P : Bool → Type 0) → P true → P false → (v : Bool) → P v
 both P t f true = t
 both P t f false = f
+
+-- a member of a set of actions is below 128
+pub action-below : (s : ActionSet) (a : ℕ) → s .bits < 2 ^ 128 → among s a ≡ true → a < 128
+unfolding among
+action-below s a h e = bit-below 128 (s .bits) a h e

@@ -1,0 +1,11 @@
+pub mod Values
+pub mod Tracing
+pub mod Singles
+pub mod Uniqueness
+pub mod Looking
+pub mod Revision
+pub mod Placing
+pub mod Turning
+pub mod Settling
+pub mod Masking
+pub mod Finishing

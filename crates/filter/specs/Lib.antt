@@ -1,0 +1,13 @@
+pub mod Structures
+pub mod Rules
+pub mod Filtering
+pub mod Plans
+pub mod Theorems
+pub mod Refusals
+pub mod Stages
+pub mod Kernel
+pub mod Revising
+pub mod Parts
+pub mod Turns
+pub mod Loops
+pub mod Calls
