@@ -38,9 +38,9 @@ use Rattle.sheet.specs.Sheet.{Read, sheet}
 use Rattle.sheet.specs.Spell.{unwords, line, literals}
 use Rattle.sheet.specs.Words.{words}
 use Rattle.sheet.proofs.Answered.{agree-ok, agree-err, agree-at-ok, agree-at-err, then-ok, kept, passed, rejected, ok-same}
-use Rattle.sheet.proofs.Accepted.{accepted}
-use Rattle.sheet.proofs.Writing.{Tight, tight-decimal, tight-name, its-lines, words-unwords}
-use Rattle.sheet.proofs.Written.{written}
+use Rattle.sheet.proofs.SheetAccepted.{accepted}
+use Rattle.sheet.proofs.PartsSpelled.{Tight, tight-decimal, tight-name, its-lines, words-unwords}
+use Rattle.sheet.proofs.SheetSpelled.{written}
 
 pub next-rest : (ws : List (List ℕ)) (r : Option (RefT (List ℕ))) (ws′ : List (List ℕ)) → Next ws r ws′ → ws′ ≡ rest ws
 next-rest ws None ws′ h = h .1 ∙ sym (ap rest (h .0))
@@ -84,9 +84,12 @@ spelled-name v w a below =
     ∙ nth Act (v .acts) R3 a below (w .acts-named .0) in
     ap (λ l. getD (words l) 1 []) its ∙ ap (λ vs. getD vs 1 []) (words-unwords (text Act) (n ∷ []) refl (tight-name n is, tt))
 
+pub checked-ok : (bs : List ℕ) (x : Read) → checked bs ≡ Ok x → sheet bs ≡ Ok x
+checked-ok bs x e = passed (ltb 32768 (length bs)) _ (sheet bs) x e
+
 pub accepted-limits : (bs : List ℕ) (c : Counts) → Accepted bs c → Limits c
 accepted-limits bs c p =
-    let q = accepted bs (p .0) (p .1) in
+    let q = accepted bs (p .0) (checked-ok bs (p .0) (p .1)) in
     let w = q .1 in
     let e = p .2 ∙ ap (λ x. x .counts) (q .3) in
     let F = ap (λ k. k .facts) e in
@@ -103,7 +106,7 @@ sheet-names bs x e =
 pub accepted-name : (bs : List ℕ) (c : Counts) → Accepted bs c → (a : ℕ) → a < c .actions
     → (v : JobSheet) × Well-formed v × (bs ≡ spell v) × (a < length (v .acts)) × (action-name bs (c .facts) a ≡ getD (v .acts) a [])
 accepted-name bs c p a below =
-    let q = sheet-names bs (p .0) (p .1) in
+    let q = sheet-names bs (p .0) (checked-ok bs (p .0) (p .1)) in
     let few : a < length (q .0 .acts) = omega (arith, below, ap (λ k. k .actions) (p .2), ap (λ x. x .counts .actions) (q .3)) in
     (q .0, q .1, q .2, few, ap (λ k. action-name bs (k .facts) a) (p .2) ∙ q .4 a few)
 
@@ -127,15 +130,12 @@ pub checks : (R : Read → Counts → Type 0) → ((x : Read) (c : Counts) → R
     → Agree R (sheet bs) r → Agree (λ x c. c ≡ x .counts) (checked bs) r × made r (Accepted bs)
 checks R weak bs (Ok c) h e =
     let p = agree-ok R (sheet bs) c e in
-    (agree-at-ok _ (checked bs) (p .0) c (checked-is bs h ∙ p .1) (weak (p .0) c (p .2)), (p .0, p .1, weak (p .0) c (p .2)))
+    (agree-at-ok _ (checked bs) (p .0) c (checked-is bs h ∙ p .1) (weak (p .0) c (p .2)), (p .0, checked-is bs h ∙ p .1, weak (p .0) c (p .2)))
 checks R weak bs (Err f) h e = (agree-at-err _ (checked bs) f f (checked-is bs h ∙ agree-err R (sheet bs) f e) refl, tt)
 
 pub unnamed-ok : (r : Result Read Refusal) (x : Read) → unnamed r ≡ Ok x → r ≡ Ok x
 unnamed-ok (Ok y) x e = let same : y ≡ x = cc in ap Ok same
 unnamed-ok (Err f) x e = absurd (grind arith)
-
-pub checked-ok : (bs : List ℕ) (x : Read) → checked bs ≡ Ok x → sheet bs ≡ Ok x
-checked-ok bs x e = passed (ltb 32768 (length bs)) _ (sheet bs) x e
 
 pub spelled-checked : (bs : List ℕ) (v : JobSheet) → Well-formed v → bs ≡ spell v → length bs ≤ 32768 → checked bs ≡ Ok (meaning v)
 spelled-checked bs v w s h = checked-is bs h ∙ ap sheet s ∙ written v w
@@ -146,8 +146,7 @@ names-law bs a (Ok n) h =
     let q = then-ok (unnamed (checked bs)) _ (p .0) (p .1) in
     let x = q .0 in
     let k = kept (ltb a (x .counts .actions)) (Ok (action-name bs (x .counts .facts) a)) _ (p .0) (q .2) in
-    let is = checked-ok bs x (unnamed-ok (checked bs) x (q .1)) in
-    let s = accepted-name bs (x .counts) (x, is, refl) a (ltb-true a (x .counts .actions) (k .0)) in
+    let s = accepted-name bs (x .counts) (x, unnamed-ok (checked bs) x (q .1), refl) a (ltb-true a (x .counts .actions) (k .0)) in
     (s .0, s .1, s .2, s .3, p .2 ∙ sym (ok-same _ (p .0) (k .1)) ∙ s .4)
 names-law bs a (Err f) h = λ v w s short.
     let e = agree-err _ (named bs a) f h in

@@ -18,8 +18,8 @@ use Rattle.sheet.specs.Faults.{number}
 use Rattle.sheet.specs.Sheet.{Tables, Read, Read-into, sheet, short, reading, written}
 use Rattle.sheet.specs.Grammar.{meaning, Accepts-exactly-what-is-spelled}
 use Rattle.sheet.proofs.Answered.{agree-ok, agree-err, passed}
-use Rattle.sheet.proofs.Accepted.{accepted}
-use Rattle.sheet.proofs.Written.{written as its-reading}
+use Rattle.sheet.proofs.SheetAccepted.{accepted}
+use Rattle.sheet.proofs.SheetSpelled.{written as its-reading}
 
 -- past a check before the lines
 lined : (b : Bool) (f : Fault) (r : Result Read Refusal) (e : Refusal) → number f ≤ 2 → 3 ≤ number (e .fault) → cond b (refuse f 0) r ≡ Err e → r ≡ Err e

@@ -24,7 +24,7 @@ checked bs = sized bs (sheet bs)
 
 -- A sheet that is accepted, with its counts.
 abbrev pub Accepted : List ℕ → Counts → Type 0
-Accepted bs c = (x : Read) × (sheet bs ≡ Ok x) × (c ≡ x .counts)
+Accepted bs c = (x : Read) × (checked bs ≡ Ok x) × (c ≡ x .counts)
 
 -- A sheet that is refused has no names.
 abbrev pub unnamed : Result Read Refusal → Result Read Fault

@@ -1,4 +1,5 @@
 use mathlib.Core.Path.{refl}
+use native.Mathlib.Omega.{arith}
 use lib.ListN.{length}
 use Rattle.sheet.specs.Actions.{checked}
 use Rattle.sheet.specs.Report.{Written, report-text}
@@ -13,7 +14,7 @@ returns-in-Ok c =
     let plan = c .args .plan .now in
     let before = c .args .buffer .now in
     let p = agree-ok _ (checked bs) _ (c .in-Ok .ensures tt .value) in
-    let told = of-accepted bs v plan (length before) (not-blank v (c .in-rest .not-Blank)) (c .if-buffer-lt800 .left) (p .0) (c .in-Ok .counts) (p .1) (p .2) in
+    let told = of-accepted bs v plan (length before) (not-blank v (c .in-rest .not-Blank)) (omega arith) (p .0) (c .in-Ok .counts) (p .1) (p .2) in
     let value : Written (report-text bs v plan (length before)) before (c .write-verdict .last .buffer) (c .write-verdict .result) = rw told (c .write-verdict .ensures .value) in
     record { value = value; within = c .write-verdict .ensures .within; same = c .write-verdict .ensures .same; law = reports bs v plan (length before) before _ _ value }
 
@@ -25,7 +26,7 @@ returns-in-Err c =
     let room = length (c .args .buffer .now) in
     let e = agree-err _ (checked bs) (c .in-Err .field-0) (c .in-Err .ensures tt .value) in
     record {
-      value = agree-at-err _ (report-text bs v plan room) _ _ (of-refused bs v plan room (not-blank v (c .in-rest .not-Blank)) (c .if-buffer-lt800 .left) (c .in-Err .field-0) e) refl;
+      value = agree-at-err _ (report-text bs v plan room) _ _ (of-refused bs v plan room (not-blank v (c .in-rest .not-Blank)) (omega arith) (c .in-Err .field-0) e) refl;
       within = tt;
       same = refl;
       law = tt;
