@@ -19,8 +19,8 @@ use Rattle.filter.specs.Filtering.{Consistent, Consistent-stage, Largest, Filt
 use Rattle.filter.specs.Filtering.Filtered.{kept, wiped}
 use Rattle.filter.specs.Parts.{step-at, level-at, structure, Same-past, no-literals, no-actions}
 use Rattle.filter.specs.Loops.{Steps-restricted, Levels-restricted}
-use Rattle.filter.specs.Turns.{raw, Factual, Firm, Narrowed}
-use Rattle.filter.specs.Calls.{Consistent-but-at}
+use Rattle.filter.specs.Turns.{raw, Factual, Narrowed}
+use Rattle.filter.specs.Stages.{Consistent-but-at}
 use Rattle.filter.proofs.Looking.{falls}
 use Rattle.filter.proofs.Uniqueness.{both-follow, same-structure}
 
@@ -34,7 +34,7 @@ stage-same p i lt =
     ap (λ (x : ℕ → Bool → Bool). record { before = x; left = structure p .left i; after = structure p .possible (suc i) }) b
     ∙ ap₂ (λ (x : ℕ → Bool) (y : ℕ → Bool → Bool). record { before = has (level-at p i); left = x; after = y }) l a
 
-pub firm-raw : (m : Meaning) (p : Part) (due : StageSet) → Consistent-but-at due m (structure p) → Firm m (raw p) due
+pub firm-raw : (m : Meaning) (p : Part) (due : StageSet) → Consistent-but-at due m (structure p) → Consistent-but-at due m (raw p)
 firm-raw m p due h i lt off = subst (Consistent-stage m) (stage-same p i lt) (h i lt off)
 
 -- consistent as it is stored, consistent as a structure

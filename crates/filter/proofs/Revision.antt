@@ -4,7 +4,7 @@ use mathlib.Core.Bool.{Bool, true, false, not, _&&_, _||_}
 use mathlib.Core.Logic.{_⊎_, inl, inr}
 use Prim.Native.Nat.{ℕ, _<_, _^_}
 use lib.Dec.{ltb}
-use Rattle.std.proofs.shelf.Tests.{or-cases, or-parts, and-parts, and-from, both-ways, not-true, not-from-false, ltb-true, lt-ltb}
+use Rattle.std.proofs.shelf.Tests.{cases-bool, or-cases, or-from, or-parts, and-parts, and-from, both-ways, not-true, not-from-false, ltb-true, lt-ltb}
 use Rattle.sets.proofs.BitLaws.{sub-le}
 use Rattle.sets.specs.Sets.{has, among}
 use Rattle.sets.specs.declared.literals.Literals.{Literals}
@@ -15,7 +15,7 @@ use Rattle.filter.specs.Kernel.{Fit, Surveyed}
 use Rattle.filter.specs.Revising.{Revised, Fewer, Stage-below, Of-task, view}
 use Rattle.filter.specs.Rules.{Stage, Settled}
 use Rattle.filter.proofs.Looking.{stands, falls, decided, need-fact, made-fact}
-use Rattle.filter.proofs.Values.{opposed}
+use Rattle.filter.proofs.Values.{not-both, opposed}
 
 -- a test that is false above is false below
 pub down : (x y : Bool) → (x ≡ true → y ≡ true) → y ≡ false → x ≡ false
@@ -106,7 +106,7 @@ module _ (m : Meaning) (lw : Lawful m) (g : StageMasks) (all required : Literals
       keeps : Stage-below x (view h)
       keeps = record { before = keep-before; left = keep-left; after = keep-after }
 
-    module _ (same-before : before ≡ g .before) (same-after : after ≡ g .after) where
+    module _ (same-before : before ≡ g .before) (some-before : (f : ℕ) → f < m .facts → (has before f true || has before f false) ≡ true) where
       -- no action left makes a literal, so it is not among those made
       unmade : (f : ℕ) (v : Bool) → ((a : ℕ) → among (s .left) a ≡ true → m .makes a f ≡ value v → ⊥) → has (s .made) f v ≡ false
       unmade f v none = look .making .only f v none
@@ -114,8 +114,42 @@ module _ (m : Meaning) (lw : Lawful m) (g : StageMasks) (all required : Literals
       old-before : (f : ℕ) (v b : Bool) → has before f v ≡ b → has (g .before) f v ≡ b
       old-before f v b k = subst (λ (y : Literals). has y f v ≡ b) same-before k
 
-      old-after : (f : ℕ) (v b : Bool) → has after f v ≡ b → has (g .after) f v ≡ b
-      old-after f v b k = subst (λ (y : Literals). has y f v ≡ b) same-after k
+      -- a value that the revision took away after the step: all actions left make its opposite, or it was not possible before and none makes it
+      taken : (f : ℕ) (v : Bool) → has (g .after) f v ≡ true → has after f v ≡ false → (has (s .agreed) f (not v) ≡ true) ⊎ ((has (g .before) f v ≡ false) × (has (s .made) f v ≡ false))
+      taken f v was gone =
+          elim (cases-bool (has (s .agreed) f (not v))) [
+            | inl e ↦ inl e
+            | inr e ↦ inr (or-parts (has (g .before) f v) (has (s .made) f v) (falls (has (g .before) f v || has (s .made) f v) (λ k. both-ways (has after f v) gone
+                (after-is f v ∙ and-from _ _ (and-from _ _ was k) (not-from-false _ e)))))
+          ]
+
+      -- an action left makes nothing that is not possible after
+      makes-none : (a f : ℕ) (v : Bool) → among (s .left) a ≡ true → m .makes a f ≡ value v → has after f v ≡ false → ⊥
+      makes-none a f v k z gone =
+          elim (taken f v (look .fit a k .makes f v z) gone) [
+            | inl e ↦ not-both (m .makes a f) v z (look .agreeing .each a f (not v) k e ∙ sym (opposed v))
+            | inr e ↦ both-ways (has (s .made) f v) (e .1) (look .making .each a f v k z)
+          ]
+
+      -- an action left misses no change that is required
+      misses-none : (a f : ℕ) (v : Bool) → among (s .left) a ≡ true → f < m .facts → has before f v ≡ false → has after f (not v) ≡ false → m .makes a f ≡ value v
+      misses-none a f v k lt no-before no-after =
+          elim (cases-bool (has (g .after) f (not v))) [
+            | inl was ↦ elim (taken f (not v) was no-after) [
+              | inl e ↦ look .agreeing .each a f v k (subst (λ (b : Bool). has (s .agreed) f b ≡ true) (not-not v) e)
+              | inr e ↦ absurd (empty v no-before (subst (λ (y : Literals). has y f (not v) ≡ false) (sym same-before) (e .0)))
+            ]
+            | inr off ↦ look .fit a k .turns f v
+                (required-is f v ∙ and-from _ _ (and-from _ _ (all-is f v ∙ lt-ltb f (m .facts) lt) (not-from-false _ (old-before f v false no-before))) (not-from-false _ off))
+          ]
+        where
+          not-not : (b : Bool) → not (not b) ≡ b
+          not-not true = refl
+          not-not false = refl
+
+          empty : (b : Bool) → has before f b ≡ false → has before f (not b) ≡ false → ⊥
+          empty true x y = both-ways (has before f true || has before f false) (or-from _ _ x y) (some-before f lt)
+          empty false x y = both-ways (has before f true || has before f false) (or-from _ _ y x) (some-before f lt)
 
       settled-h : Settled m (view h)
       settled-h = record {
@@ -128,9 +162,8 @@ module _ (m : Meaning) (lw : Lawful m) (g : StageMasks) (all required : Literals
         opposite-always-needed = λ f v lt k r. both-ways (has (s .wanted) f (not v)) (before-parts f v k .2)
             (look .wanting .only f (not v) lt (λ a n. r a n ∙ opposed v));
         needs-the-impossible = λ a k r. both-ways (has (g .before) (r .0) (r .1)) (old-before (r .0) (r .1) false (r .4)) (look .fit a k .needs (r .0) (r .1) (r .3));
-        makes-the-impossible = λ a k r. both-ways (has (g .after) (r .0) (r .1)) (old-after (r .0) (r .1) false (r .4)) (look .fit a k .makes (r .0) (r .1) (r .3));
-        misses-a-required-change = λ a k r. r .5 (look .fit a k .turns (r .0) (r .1)
-            (required-is (r .0) (r .1) ∙ and-from _ _ (and-from _ _ (all-is (r .0) (r .1) ∙ lt-ltb (r .0) (m .facts) (r .2)) (not-from-false _ (old-before (r .0) (r .1) false (r .3)))) (not-from-false _ (old-after (r .0) (not (r .1)) false (r .4)))));
+        makes-the-impossible = λ a k r. makes-none a (r .0) (r .1) k (r .3) (r .4);
+        misses-a-required-change = λ a k r. r .5 (misses-none a (r .0) (r .1) k (r .2) (r .3) (r .4));
       }
 
     fewer : Sized g → Sized h → Fewer h g

@@ -17,8 +17,8 @@ use Rattle.filter.specs.Rules.{stage}
 use Rattle.filter.specs.Filtering.{Consistent, Consistent-stage}
 use Rattle.filter.specs.Kernel.{Covers}
 use Rattle.filter.specs.Parts.{step-at, level-at, Same-past}
-use Rattle.filter.specs.Stages.{marked}
-use Rattle.filter.specs.Turns.{raw, weight, burden, Under, Factual, Firm, Narrowed, Turned, Progressed}
+use Rattle.filter.specs.Stages.{marked, Consistent-but-at}
+use Rattle.filter.specs.Turns.{raw, weight, burden, Under, Factual, Narrowed, Turned, Progressed}
 use Rattle.filter.specs.Loops.{Settling}
 use Rattle.filter.proofs.Looking.{gone}
 use Rattle.filter.proofs.Turning.{covered, covering, rise}
@@ -60,7 +60,7 @@ module _ (m : Meaning) (p : Part) (due low first : StageSet) (le : p .round ≤ 
     firm = λ was. was;
   }
 
-  pub firm-first : Firm m (raw p) due → Firm m (raw p) first
+  pub firm-first : Consistent-but-at due m (raw p) → Consistent-but-at first m (raw p)
   firm-first was i l n = was i l (elim (and-cases (marked due i) (marked low i) (sym (first-is i) ∙ n))
       [ inl x ↦ x | inr x ↦ absurd (both-ways (marked low i) x (low-is i ∙ lt-ltb i (min (p .round) 32) (omega arith))) ])
 
@@ -69,9 +69,9 @@ module _ (m : Meaning) (o : Part) (first : StageSet) (p : Part) (due rest : Stag
   gone-on q next now =
       let same : p .round ≡ o .round = was .narrowed .round in
       record {
-        narrowed = narrowed-on m o p q (was .narrowed) (now .0);
-        under = λ j e. subst (λ (k : ℕ). j < k) same (now .1 j e);
-        firm = λ begin j l n. now .2 j (subst (λ (k : ℕ). j < k) (now .0 .round) l) n (λ off other. was .firm begin j (subst (λ (k : ℕ). j < k) (now .0 .round) l)
+        narrowed = narrowed-on m o p q (was .narrowed) (now .narrowed);
+        under = λ j e. subst (λ (k : ℕ). j < k) same (now .under j e);
+        firm = λ begin j l n. now .firm j (subst (λ (k : ℕ). j < k) (now .narrowed .round) l) n (λ off other. was .firm begin j (subst (λ (k : ℕ). j < k) (now .narrowed .round) l)
             (elim (gone (marked due) (marked rest) i drops j off) [ inl x ↦ x | inr e ↦ absurd (other e) ]));
       }
 
@@ -86,7 +86,7 @@ module _ (m : Meaning) (o : Part) (first : StageSet) (p : Part) (due rest : Stag
   )
 
   pub falls-on : (q : Part) (next : StageSet) → Turned m p i rest (Some next) q → next .bits < 2 ^ 32 → rest .bits < due .bits → burden q next < burden p due
-  falls-on q next now small less = elim (now .3) [
+  falls-on q next now small less = elim (now .falls) [
     | inl w ↦ omega arith
     | inr e ↦ let same : next .bits ≡ rest .bits = ap (λ (s : StageSet). s .bits) (e .0) in omega (arith, e .1)
   ]
@@ -94,7 +94,7 @@ module _ (m : Meaning) (o : Part) (first : StageSet) (p : Part) (due rest : Stag
 module _ (m : Meaning) (o : Part) (first : StageSet) (p : Part) (due : StageSet) (was : Progressed m o first p due) (none : (j : ℕ) → marked due j ≡ false)
     (all : Literals) (all-is : (f : ℕ) (v : Bool) → has all f v ≡ ltb f (m .facts)) where
   -- every stage is consistent, and level 0 was looked at
-  pub whole : Covers (level-at p 0) all → Firm m (raw o) first → Consistent m (raw p)
+  pub whole : Covers (level-at p 0) all → Consistent-but-at first m (raw o) → Consistent m (raw p)
   whole start begin = record {
     closed = λ i l. at i l .settled;
     action = λ i l. at i l .action;

@@ -93,12 +93,12 @@ module _ (m : Meaning) (p : Part) (i : ℕ) (lt : i < p .round) (le : p .round �
     firm j l n was = elim (cases-eq j i) [
       | inl e ↦
           let off : marked next i ≡ false = subst (λ (k : ℕ). marked next k ≡ false) e n in
-          let b : cb ≡ false = falls cb (λ k. both-ways (marked next i) off (tc .here-before k)) in
-          let a : ca ≡ false = falls ca (λ k. both-ways (marked next i) off (tc .here-after k)) in
+          let b : cb ≡ false = falls cb (λ k. both-ways (marked next i) off (tc .here k)) in
+          let some : (f : ℕ) → f < m .facts → (has (h .before) f true || has (h .before) f false) ≡ true = covered (m .facts) all (h .before) all-is (whole .before) in
           let new : Consistent-stage m (view h) = record {
-            settled = rev .settled (kb b) (ka a);
+            settled = rev .settled (kb b) some;
             action = whole .action;
-            before = covered (m .facts) all (h .before) all-is (whole .before);
+            before = some;
             after = covered (m .facts) all (h .after) all-is (whole .after);
           } in
           subst (λ (k : ℕ). Consistent-stage m (stage (raw q) k)) (sym e) (subst (λ (x : StageMasks). Consistent-stage m (view x)) (sym (stage-here p i h q pl small)) new)
@@ -126,4 +126,4 @@ module _ (m : Meaning) (p : Part) (i : ℕ) (lt : i < p .round) (le : p .round �
         ]
 
     pub turned-some : Turned m p i due (Some next) q
-    turned-some = (narrowed, tc .under, firm, lighter-or-same)
+    turned-some = record { narrowed = narrowed; under = tc .under; firm = firm; falls = lighter-or-same }

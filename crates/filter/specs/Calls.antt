@@ -14,11 +14,10 @@ use Rattle.filter.specs.declared.refusal.Refusal.{Refusal}
 use Rattle.filter.specs.declared.refusal.Refusal.the-variants.{Round}
 use Rattle.filter.specs.declared.stages.StageSet.{StageSet}
 use Rattle.filter.specs.Structures.{Structure, Below, trimmed, bare}
-use Rattle.filter.specs.Rules.{stage}
-use Rattle.filter.specs.Filtering.{Consistent, Consistent-stage, Filtered}
+use Rattle.filter.specs.Filtering.{Consistent, Filtered}
 use Rattle.filter.specs.Parts.{structure, Same-past}
 use Rattle.filter.specs.Plans.{Inside}
-use Rattle.filter.specs.Stages.{marked}
+use Rattle.filter.specs.Stages.{Consistent-but-at}
 
 -- The part stands.
 abbrev pub stands : Outcome → Bool
@@ -33,10 +32,6 @@ Filters m p (Err e) q = (30 < p .round) × (e ≡ Round) × (q ≡ p)
 -- A plan inside a part that is not refused is inside what is left, and the part is not wiped.
 abbrev pub Loses-no-plan : Meaning → Part → Result Outcome Refusal → Part → Type 0
 Loses-no-plan m p r q = p .round ≤ 30 → (acts : List ℕ) → Solves m acts → Inside m (structure p) acts → (r ≡ Ok Kept) × Inside m (structure q) acts
-
--- Each stage that is not in the set is consistent.
-abbrev pub Consistent-but-at : StageSet → Meaning → Structure → Type 0
-Consistent-but-at due m p = (i : ℕ) → i < p .round → marked due i ≡ false → Consistent-stage m (stage p i)
 
 -- Nothing was added, and nothing that a consistent structure below p has was lost; a part that is wiped has none below it.
 abbrev pub Narrows : Meaning → Structure → Outcome → Structure → Type 0

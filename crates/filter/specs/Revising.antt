@@ -1,6 +1,6 @@
 -- What the revision of one stage leaves.
 use mathlib.Core.Path.{_≡_}
-use mathlib.Core.Bool.{Bool, true}
+use mathlib.Core.Bool.{Bool, true, false, _||_}
 use Prim.Native.Nat.{ℕ, _<_, _≤_}
 use Rattle.sets.specs.Sets.{has, among}
 use Rattle.tasks.specs.Meaning.{Meaning}
@@ -30,9 +30,9 @@ pub record Fewer (h g : StageMasks) : Type 0 where
   pub after-trues : h .after .trues ≤ g .after .trues
   pub after-falses : h .after .falses ≤ g .after .falses
 
--- h is left of g: nothing is added, nothing that a settled stage below g has is lost, and where the values stayed as they were, h is settled.
+-- h is left of g: nothing is added, nothing that a settled stage below g has is lost, and where the values before stayed as they were and nothing is empty, h is settled.
 pub record Revised (m : Meaning) (g h : StageMasks) : Type 0 where
   pub less : Stage-below (view h) (view g)
   pub keeps : (x : Stage) → Settled m x → Of-task m x → Stage-below x (view g) → Stage-below x (view h)
-  pub settled : h .before ≡ g .before → h .after ≡ g .after → Settled m (view h)
+  pub settled : h .before ≡ g .before → ((f : ℕ) → f < m .facts → (has (h .before) f true || has (h .before) f false) ≡ true) → Settled m (view h)
   pub fewer : Fewer h g

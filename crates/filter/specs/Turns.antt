@@ -18,7 +18,7 @@ use Rattle.filter.specs.Structures.{Structure, Below}
 use Rattle.filter.specs.Rules.{stage}
 use Rattle.filter.specs.Filtering.{Consistent, Consistent-stage}
 use Rattle.filter.specs.Parts.{step-at, level-at, Same-past}
-use Rattle.filter.specs.Stages.{marked}
+use Rattle.filter.specs.Stages.{marked, Consistent-but-at}
 
 -- Stage i of a part, as it is stored.
 abbrev pub stage-at : Part → ℕ → StageMasks
@@ -56,15 +56,10 @@ Under limit due = (i : ℕ) → marked due i ≡ true → i < limit
 abbrev pub Factual : Meaning → Structure → Type 0
 Factual m x = (i f : ℕ) (v : Bool) → i ≤ x .round → x .possible i f v ≡ true → f < m .facts
 
--- Each stage that is not due is consistent.
-abbrev pub Firm : Meaning → Structure → StageSet → Type 0
-Firm m p due = (i : ℕ) → i < p .round → marked due i ≡ false → Consistent-stage m (stage p i)
-
--- The stages due after stage i has changed: those that were, stage i where a level changed, and the neighbour of that level.
+-- The stages due after stage i has changed: those that were, stage i where the level before it changed, and the neighbour of a level that changed.
 pub record Touched (due : StageSet) (i round : ℕ) (before after : Bool) (r : StageSet) : Type 0 where
   pub old : (j : ℕ) → marked due j ≡ true → marked r j ≡ true
-  pub here-before : before ≡ true → marked r i ≡ true
-  pub here-after : after ≡ true → marked r i ≡ true
+  pub here : before ≡ true → marked r i ≡ true
   pub prior : before ≡ true → (j : ℕ) → suc j ≡ i → marked r j ≡ true
   pub later : after ≡ true → suc i < round → marked r (suc i) ≡ true
   pub under : Under round r
@@ -77,16 +72,21 @@ pub record Narrowed (m : Meaning) (p q : Part) : Type 0 where
   pub keeps : (x : Structure) → Consistent m x → Factual m x → Below x (raw p) → Below x (raw q)
   pub past : Same-past p q
 
--- After stage i was revised the stages of the set are due and the part is q; or no consistent structure is below p.
+-- Stage i of p was revised, which gave q, and now the stages of `next` are due, where those of `due` were besides stage i.
+pub record Advanced (m : Meaning) (p : Part) (i : ℕ) (due next : StageSet) (q : Part) : Type 0 where
+  pub narrowed : Narrowed m p q
+  pub under : Under (p .round) next
+  pub firm : (j : ℕ) → j < p .round → marked next j ≡ false
+      → (marked due j ≡ false → (j ≡ i → ⊥) → Consistent-stage m (stage (raw p) j)) → Consistent-stage m (stage (raw q) j)
+  pub falls : (weight q < weight p) ⊎ ((next ≡ due) × (weight q ≤ weight p))
+
+-- A turn of the loop: it goes on, or no consistent structure is below p.
 abbrev pub Turned : Meaning → Part → ℕ → StageSet → Option StageSet → Part → Type 0
 Turned m p i due None q = ((x : Structure) → Consistent m x → Factual m x → Below x (raw p) → ⊥) × (q ≡ p)
-Turned m p i due (Some next) q =
-    Narrowed m p q × Under (p .round) next
-    × ((j : ℕ) → j < p .round → marked next j ≡ false → (marked due j ≡ false → (j ≡ i → ⊥) → Consistent-stage m (stage (raw p) j)) → Consistent-stage m (stage (raw q) j))
-    × ((weight q < weight p) ⊎ ((next ≡ due) × (weight q ≤ weight p)))
+Turned m p i due (Some next) q = Advanced m p i due next q
 
 -- What the loop keeps: it began with part o and the set first of stages due, and has come to part p and the set due.
 pub record Progressed (m : Meaning) (o : Part) (first : StageSet) (p : Part) (due : StageSet) : Type 0 where
   pub narrowed : Narrowed m o p
   pub under : Under (o .round) due
-  pub firm : Firm m (raw o) first → Firm m (raw p) due
+  pub firm : Consistent-but-at first m (raw o) → Consistent-but-at due m (raw p)

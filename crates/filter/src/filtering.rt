@@ -1,7 +1,7 @@
 //! The filter's calls.
 ghost use mathlib.Core.Path.{_≡_};
-ghost use mathlib.Core.Bool.{true};
-ghost use Prim.Native.Nat.{ℕ, _+_, _≤_};
+ghost use Prim.Native.Nat.{_+_, _<_, _≤_};
+ghost use Rattle.std.specs.Results.{Cases};
 ghost use Rattle.tasks.specs.Bundle.{meaning};
 ghost use Rattle.tasks.specs.Masked.{masked};
 ghost use Rattle.filter.specs.Calls.{Filters, Filters-from, Loses-no-plan};
@@ -34,9 +34,7 @@ pub fn filter_snapshot(snapshot: &Snapshot, part: &mut Part) -> Result<Outcome, 
     ensures value { λ r. ⌜ Filters (masked (now (snapshot .entry))) (now (part .entry)) r (now (part .exit)) ⌝ }
     ensures plans { λ r. ⌜ Loses-no-plan (masked (now (snapshot .entry))) (now (part .entry)) r (now (part .exit)) ⌝ }
 {
-    if part.round > 30 {
-        return Err(Refusal::Round);
-    }
+    check_round(part)?;
     restrict_steps(part, all_actions(snapshot));
     restrict_levels(part, all_literals(snapshot));
     let due = StageSet::below(part.round);
@@ -47,10 +45,18 @@ pub fn filter_snapshot(snapshot: &Snapshot, part: &mut Part) -> Result<Outcome, 
 pub fn filter_from(snapshot: &Snapshot, part: &mut Part, due: StageSet) -> Result<Outcome, Refusal>
     ensures value { λ r. ⌜ Filters-from due (masked (now (snapshot .entry))) (now (part .entry)) r (now (part .exit)) ⌝ }
 {
+    check_round(part)?;
+    Ok(narrow(snapshot, part, due))
+}
+
+// Refuses a round over 30.
+fn check_round(part: &Part) -> Result<(), Refusal>
+    ensures value { λ r. ⌜ Cases r (λ _. now (part .entry) .round ≤ 30) (λ e. (30 < now (part .entry) .round) × (e ≡ Refusal.Round)) ⌝ }
+{
     if part.round > 30 {
         return Err(Refusal::Round);
     }
-    Ok(narrow(snapshot, part, due))
+    Ok(())
 }
 
 // Settles the stages of `due` and those that this touches, and empties the part where a step or a fact has nothing left.

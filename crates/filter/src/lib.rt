@@ -1,4 +1,6 @@
-//! The filter of a planner: parts of a search, the rules by which actions and values are removed from them, and what is left in the end.
+//! The filter of a planner. `part` has what is filtered, `stages` and `outcome` what goes with it, `filtering` the calls, `theorems` what
+//! holds of them for every task. Below them `turns` revises one stage at a time, and `stage` has the rules as masks.
+
 pub mod filtering;
 mod limits;
 pub mod outcome;

@@ -65,7 +65,7 @@ fn touched(due: StageSet, i: u8, round: u8, before: bool, after: bool) -> StageS
     requires under { ⌜ Under round due ⌝ }
     ensures value { λ r. ⌜ Touched due i round before after r ⌝ }
 {
-    let here = with_if(with_if(due, i, before), i, after);
+    let here = with_if(due, i, before);
     let lower = if i > 0 {
         with_if(here, i - 1, before)
     } else {

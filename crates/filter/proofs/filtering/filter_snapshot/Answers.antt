@@ -1,4 +1,5 @@
-use native.Mathlib.Omega.{arith}
+use Prim.Native.Nat.{_≤_}
+use borrow.Author.Needs.{needs}
 use Rattle.tasks.specs.Masked.{masked}
 use Rattle.tasks.proofs.Masking.{masked-lawful}
 use Rattle.filter.proofs.Finishing.{filters, plans-stay}
@@ -12,9 +13,10 @@ returns c =
     let q = c .restrict-steps .last .part in
     let r = c .restrict-levels .last .part in
     let s = c .narrow .last .part in
+    let small : p .round ≤ 30 = search needs in
     record {
       value = filters m lw p q r s (c .all-actions .result) (c .all-literals .result) (c .below-due .result) (c .narrow .result)
-          (omega arith) (c .restrict-steps .ensures .value) (c .restrict-levels .ensures .value) (c .all-actions .ensures .value) (c .all-literals .ensures .value) (c .below-due .ensures .value) (c .narrow .ensures .value);
+          small (c .restrict-steps .ensures .value) (c .restrict-levels .ensures .value) (c .all-actions .ensures .value) (c .all-literals .ensures .value) (c .below-due .ensures .value) (c .narrow .ensures .value);
       plans = plans-stay m lw p q r s (c .all-actions .result) (c .all-literals .result) (c .below-due .result) (c .narrow .result)
-          (omega arith) (c .restrict-steps .ensures .value) (c .restrict-levels .ensures .value) (c .all-actions .ensures .value) (c .all-literals .ensures .value) (c .below-due .ensures .value) (c .narrow .ensures .value);
+          small (c .restrict-steps .ensures .value) (c .restrict-levels .ensures .value) (c .all-actions .ensures .value) (c .all-literals .ensures .value) (c .below-due .ensures .value) (c .narrow .ensures .value);
     }
