@@ -1,0 +1,5 @@
+pub mod Applicable
+pub mod Adding
+pub mod Passing
+pub mod Lengths
+pub mod Rests

@@ -1,0 +1,3 @@
+pub mod Sequences
+pub mod Tried
+pub mod Answered
