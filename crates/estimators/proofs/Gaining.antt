@@ -1,12 +1,11 @@
 -- The words that goal count adds up are those of its definition: the goals that do not hold, those of them that an action
 -- makes, and the largest gain, of which only the comparison with the missing goals matters.
-use mathlib.Core.Path.{_≡_, refl, sym, _∙_, ap, subst}
-use mathlib.Core.Bool.{Bool, true, false, not, cond, _&&_, _||_}
+use mathlib.Core.Path.{_≡_, refl, sym, _∙_}
+use mathlib.Core.Bool.{Bool, true, false, not, _&&_, _||_}
 use mathlib.Core.Logic.{_⊎_, inl, inr}
 use Prim.Native.Nat.{ℕ, zero, suc, _*_, _<_, _≤_, max}
 use native.Mathlib.Omega.{arith}
 use native.Mathlib.Nat.{mul-zero}
-use lib.Dec.{ltb}
 use lib.IntN.{ℤ, pos, negsuc}
 use Rattle.std.proofs.shelf.Bits.{mul-le}
 use Rattle.std.proofs.shelf.Tests.{cases-lt, le-ltb, lt-ltb}
@@ -18,7 +17,7 @@ use Rattle.sets.specs.declared.literals.Literals.{Literals}
 use Rattle.sets.proofs.Counting.{count-ext}
 use Rattle.tasks.specs.Meaning.{Meaning, Lawful}
 use Rattle.estimators.specs.Ranges.{most-below}
-use Rattle.estimators.specs.GoalCounts.{missing, missings, gained, gains, goal-count}
+use Rattle.estimators.specs.GoalCounts.{missing, missing-count, gained, gains, goal-count}
 use Rattle.estimators.proofs.Tallies.{count-cut, most-at}
 
 -- a literal that is not among those of the state
@@ -57,8 +56,8 @@ abbrev pub Missing : Meaning → ℕ → Literals → Type 0
 Missing m s set = (f : ℕ) (v : Bool) → has set f v ≡ (says (m .goal f) v && is (not v) (bit s f))
 
 module _ (m : Meaning) (law : Lawful m) (s : ℕ) (set : Literals) (is-missing : Missing m s set) where
-  pub missing-many : count (λ f. has set f true || has set f false) 64 ≡ missings m s
-  unfolding missings
+  pub missing-many : count (λ f. has set f true || has set f false) 64 ≡ missing-count m s
+  unfolding missing-count
   missing-many =
       count-ext (λ f. has set f true || has set f false) (missing m s) 64 (λ f lt. rw (is-missing f true, is-missing f false) (wanted (m .goal f) (bit s f)))
       ∙ count-cut (missing m s) (m .facts) 64 (law .facts-most) (λ f past lt. rw (law .goal-past f past))
@@ -87,14 +86,14 @@ most-times left g (suc n) many some each = go (each n (omega arith)) (most-times
     go here lower (inr le) = let e : max (g n) (most-below g n) ≡ g n = omega arith in rw e here
 
 module _ (m : Meaning) (s left : ℕ) where
-  pub none-missing : missings m s ≡ 0 → false ≡ goal-count m s left
+  pub none-missing : missing-count m s ≡ 0 → false ≡ goal-count m s left
   unfolding goal-count
-  none-missing e = sym (le-ltb _ (missings m s) (omega arith))
+  none-missing e = sym (le-ltb _ (missing-count m s) (omega arith))
 
-  pub enough : (a : ℕ) → a < m .actions → missings m s ≤ left * gains m s a → false ≡ goal-count m s left
+  pub enough : (a : ℕ) → a < m .actions → missing-count m s ≤ left * gains m s a → false ≡ goal-count m s left
   unfolding goal-count
-  enough a lt le = sym (le-ltb _ (missings m s) (omega (arith, mul-le left (gains m s a) left (most-below (gains m s) (m .actions)) (omega arith) (most-at (gains m s) (m .actions) a lt))))
+  enough a lt le = sym (le-ltb _ (missing-count m s) (omega (arith, mul-le left (gains m s a) left (most-below (gains m s) (m .actions)) (omega arith) (most-at (gains m s) (m .actions) a lt))))
 
-  pub too-few : 0 < missings m s → ((a : ℕ) → a < m .actions → left * gains m s a < missings m s) → true ≡ goal-count m s left
+  pub too-few : 0 < missing-count m s → ((a : ℕ) → a < m .actions → left * gains m s a < missing-count m s) → true ≡ goal-count m s left
   unfolding goal-count
-  too-few some each = sym (lt-ltb _ (missings m s) (most-times left (gains m s) (m .actions) (missings m s) some each))
+  too-few some each = sym (lt-ltb _ (missing-count m s) (most-times left (gains m s) (m .actions) (missing-count m s) some each))

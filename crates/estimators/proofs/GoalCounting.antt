@@ -1,12 +1,12 @@
 -- Goal count is sound. Each goal that is missing in the first state has to be made by some action on the way, and no action
 -- makes more of them than the best one; so the actions left, times that, must cover them all.
-use mathlib.Core.Path.{_≡_, refl, sym, _∙_, ap, subst}
+use mathlib.Core.Path.{_≡_, refl, subst}
 use mathlib.Core.Bool.{Bool, true, false, not, cond, _&&_, _||_}
 use mathlib.Core.List.{List, [], _∷_}
-use Prim.Native.Nat.{ℕ, zero, suc, _+_, _*_, _<_, _≤_}
+use Prim.Native.Nat.{ℕ, zero, suc, _+_, _*_, _≤_}
 use native.Mathlib.Omega.{arith}
 use native.Mathlib.Nat.{suc-mul}
-use lib.IntN.{ℤ, pos, negsuc, natAbs}
+use lib.IntN.{ℤ, pos, negsuc}
 use lib.ListN.{length}
 use Rattle.std.proofs.shelf.Bits.{mul-le}
 use Rattle.std.proofs.shelf.Tests.{both-ways, ltb-true}
@@ -15,12 +15,12 @@ use Rattle.sets.specs.Signs.{says}
 use Rattle.sets.specs.Counts.{count}
 use Rattle.sets.proofs.Counting.{count-ext, count-none}
 use Rattle.tasks.specs.Meaning.{Meaning, Lawful, Three}
-use Rattle.tasks.specs.States.{Holds, Applies, Goals-hold, Reaches, after, put}
+use Rattle.tasks.specs.States.{Holds, Applies, Reaches, after, put}
 use Rattle.tasks.proofs.Layers.{usable-below}
 use Rattle.tasks.proofs.Packing.{bit-packed}
 use Rattle.estimators.specs.Sound.{Sound}
 use Rattle.estimators.specs.Ranges.{most-below}
-use Rattle.estimators.specs.GoalCounts.{missing, missings, gained, gains, goal-count}
+use Rattle.estimators.specs.GoalCounts.{missing, missing-count, gained, gains, goal-count}
 use Rattle.estimators.proofs.Tallies.{count-cover, most-at}
 
 -- a goal that holds is not missing
@@ -77,7 +77,7 @@ module _ (m : Meaning) (law : Lawful m) (first : ℕ) where
   all-made (a ∷ rest) s r = omega (arith, one-action s a (r .0), all-made rest (after m s a) (r .1), suc-mul (length rest) best)
 
 pub goal-count-sound : (m : Meaning) → Lawful m → Sound m (goal-count m)
-unfolding goal-count missings awaited best
+unfolding goal-count missing-count awaited best
 goal-count-sound m law s n e acts few r =
     let short = ltb-true (n * most-below (gains m s) (m .actions)) (count (missing m s) (m .facts)) e in
     let same : count (missing m s) (m .facts) ≡ count (awaited m law s s) (m .facts) = count-ext (missing m s) (awaited m law s s) (m .facts) (λ f lt. twice (missing m s f)) in

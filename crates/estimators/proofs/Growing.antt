@@ -1,9 +1,9 @@
 -- The sets that the code grows are the layers: what lies in a set lies in its layer, one action more adds what it makes,
 -- and a layer that does not grow is the last one.
 use mathlib.Core.Path.{_≡_, refl, sym, _∙_, ap, subst, fun-ext}
-use mathlib.Core.Bool.{Bool, true, false, not, _&&_, _||_}
-use mathlib.Core.Logic.{_⊎_, inl, inr}
-use Prim.Native.Nat.{ℕ, zero, suc, _+_, _<_, _≤_, min}
+use mathlib.Core.Bool.{Bool, true, false, _&&_, _||_}
+use mathlib.Core.Logic.{inl, inr}
+use Prim.Native.Nat.{ℕ, zero, suc, _+_, _≤_, min}
 use native.Mathlib.Numerals.{add-one}
 use native.Mathlib.Omega.{arith}
 use lib.Dec.{ltb}
@@ -77,11 +77,6 @@ pub grown-more : (l : Bool) (g : ℕ → Bool) (n : ℕ) (old new : Bool) → ol
 unfolding some-below
 grown-more l g n old new e q = rw (add-one, q, e) (or-swap l (some-below g n) (g n))
 
-either-way : (a b : Bool) → (a ≡ true → b ≡ true) → (b ≡ true → a ≡ true) → a ≡ b
-either-way true b to from = sym (to refl)
-either-way false true to from = from refl
-either-way false false to from = refl
-
 -- the layers as functions
 module _ (m : Meaning) (first : ℕ) where
   pub next-is : (n : ℕ) (layer : Layer) → ((f : ℕ) (v : Bool) → layer f v ≡ layer-at m first n f v) → (f : ℕ) (v : Bool) → next-layer m layer f v ≡ layer-at m first (n + 1) f v
@@ -109,7 +104,7 @@ module _ (m : Meaning) (first : ℕ) where
   ]
     where
       still : (f : ℕ) (v : Bool) → next-layer m (layer-at m first i) f v ≡ layer-at m first i f v
-      still f v = either-way _ _ (rw add-one at (stays f v)) (grows m first (layer-at m first i) f v)
+      still f v = same-from-decides {P = layer-at m first i f v ≡ true} _ _ (rw add-one at (stays f v), grows m first (layer-at m first i) f v) (λ e. e, λ e. e)
 
   -- what the answers rest on: goals that lie in a layer lie in each later one, and goals that do not lie in the last layer lie in none
   pub had-before : (i n : ℕ) → i ≤ n → inside (m .facts) (m .goal) (layer-at m first i) ≡ true → false ≡ relaxed m first n

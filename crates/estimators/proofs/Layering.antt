@@ -1,12 +1,12 @@
 -- Relaxed layers are sound. The literals of each state on the way lie in the layer of its number, since an action that applies
 -- there is ready in that layer; so where the goals hold after n actions they lie in layer n, and layers only grow.
-use mathlib.Core.Path.{_≡_, refl, sym, _∙_, ap, subst}
-use mathlib.Core.Bool.{Bool, true, false, not, _&&_, _||_}
+use mathlib.Core.Path.{_≡_, refl, subst}
+use mathlib.Core.Bool.{Bool, true, false, _&&_}
 use mathlib.Core.List.{List, [], _∷_}
 use mathlib.Core.Logic.{inl, inr}
 use Prim.Native.Nat.{ℕ, zero, suc, _+_, _<_, _≤_}
 use native.Mathlib.Omega.{arith}
-use lib.IntN.{ℤ, pos, negsuc, natAbs}
+use lib.IntN.{ℤ, pos, negsuc}
 use lib.ListN.{length}
 use Rattle.std.proofs.shelf.Tests.{both-ways, cases-eq, and-from, or-left, or-right, lt-ltb, not-true}
 use Rattle.sets.specs.Bits.{bit}
@@ -16,7 +16,6 @@ use Rattle.tasks.specs.States.{Holds, Applies, Reaches, after, put}
 use Rattle.tasks.proofs.Layers.{usable-below}
 use Rattle.tasks.proofs.Packing.{bit-packed}
 use Rattle.estimators.specs.Sound.{Sound}
-use Rattle.estimators.specs.Ranges.{some-below, all-below}
 use Rattle.estimators.specs.Layers.{Layer, allowed, inside, ready, next-layer, layer-at, relaxed}
 use Rattle.estimators.proofs.Tallies.{some-in, all-from}
 

@@ -1,10 +1,10 @@
 -- Counts, largest numbers and tests over a range: how they bound one another, and how a test is read off.
-use mathlib.Core.Path.{_≡_, refl, sym, _∙_, ap, subst}
-use mathlib.Core.Bool.{Bool, true, false, cond, _&&_, _||_}
+use mathlib.Core.Path.{_≡_, refl, sym, ap, subst}
+use mathlib.Core.Bool.{Bool, true, false, cond, _||_}
 use mathlib.Core.Logic.{_⊎_, inl, inr}
-use Prim.Native.Nat.{ℕ, zero, suc, _+_, _<_, _≤_, max}
+use Prim.Native.Nat.{ℕ, zero, suc, _+_, _<_, _≤_}
 use native.Mathlib.Omega.{arith}
-use Rattle.std.proofs.shelf.Tests.{both-ways, cases-eq, cases-lt, and-parts, and-from, or-cases, or-left, or-right}
+use Rattle.std.proofs.shelf.Tests.{both-ways, cases-eq, and-parts, and-from, or-left, or-right}
 use Rattle.sets.specs.Counts.{count}
 use Rattle.estimators.specs.Ranges.{some-below, all-below, most-below}
 

@@ -13,8 +13,8 @@ abbrev pub missing : Meaning → ℕ → ℕ → Bool
 missing m s f = says (m .goal f) (not (bit s f))
 
 -- How many goals do not hold in the state.
-unfoldable pub missings : Meaning → ℕ → ℕ
-missings m s = count (missing m s) (m .facts)
+unfoldable pub missing-count : Meaning → ℕ → ℕ
+missing-count m s = count (missing m s) (m .facts)
 
 -- A goal that does not hold is made by the action.
 abbrev pub gained : Meaning → ℕ → ℕ → ℕ → Bool
@@ -26,4 +26,4 @@ gains m s a = cond (m .usable a) (count (gained m s a) (m .facts)) 0
 
 -- Even if each action left made as many missing goals as any action makes, one would be missing still.
 unfoldable pub goal-count : Meaning → ℕ → ℕ → Bool
-goal-count m s left = ltb (left * most-below (gains m s) (m .actions)) (missings m s)
+goal-count m s left = ltb (left * most-below (gains m s) (m .actions)) (missing-count m s)

@@ -1,14 +1,14 @@
 -- Chains of rows: a chain has each row of its slot, so a state that is not met on the way from the head stands nowhere.
 -- A new row goes in front of its chain; raising a left changes no state and so no chain.
-use mathlib.Core.Path.{_≡_, refl, sym, _∙_, ap, subst, fun-ext}
-use mathlib.Core.Bool.{Bool, true, false}
-use mathlib.Core.List.{List, [], _∷_}
-use mathlib.Core.Logic.{_⊎_, _≢_, inl, inr}
-use Prim.Native.Nat.{ℕ, zero, suc, _+_, _-_, _≤_, _<_}
+use mathlib.Core.Path.{_≡_, sym, _∙_, ap, subst, fun-ext}
+use mathlib.Core.Bool.{false}
+use mathlib.Core.List.{List}
+use mathlib.Core.Logic.{_≢_, inl, inr}
+use Prim.Native.Nat.{ℕ, _+_, _-_, _≤_, _<_}
 use native.Mathlib.Omega.{arith}
 use lib.Dec.{leb}
 use lib.ListN.{length, getD, set, take}
-use Rattle.std.proofs.shelf.Lists.{getD-set-same, getD-set-other, getD-past, getD-take, length-set, length-take-le, set-past}
+use Rattle.std.proofs.shelf.Lists.{getD-set-same, getD-set-other, getD-take, length-take-le, set-past}
 use Rattle.std.proofs.shelf.Tests.{cases-eq, cases-lt, cases-order, le-leb, lt-leb}
 use Rattle.memories.specs.Pairs.{recalls}
 use Rattle.memories.specs.declared.row.Row.{Row}

@@ -1,7 +1,7 @@
 -- Rows of pairs: which pairs they hold, where a state stands, and what a keep makes of them.
 -- Every fact is an induction over the rows, of which the first either holds the state or is passed over.
 use mathlib.Core.Path.{_≡_, refl, sym, _∙_, ap, subst}
-use mathlib.Core.Bool.{Bool, true, false, cond, _&&_, _||_}
+use mathlib.Core.Bool.{Bool, true, false, cond, _||_}
 use mathlib.Core.List.{List, [], _∷_, _++_}
 use mathlib.Core.Logic.{_⊎_, inl, inr}
 use Prim.Native.Nat.{ℕ, zero, suc, _≤_, _<_, _+_, _-_, max}
@@ -10,8 +10,8 @@ use lib.Dec.{eqb, ltb}
 use lib.ListN.{length, getD, set, take}
 use lib.Seq.{take-set-lt}
 use Rattle.std.proofs.shelf.Lists.{getD-take, length-take-le, set-getD, take-more-set}
-use Rattle.std.proofs.shelf.Tests.{both-ways, cases-lt, cases-bool, and-parts, or-cases, or-left, or-right, eqb-true, eqb-false, eq-eqb, ne-eqb, lt-ltb, le-ltb, cond-true, cond-false}
-use Rattle.memories.specs.Pairs.{Pairs, Kept, recalls}
+use Rattle.std.proofs.shelf.Tests.{both-ways, cases-lt, and-parts, or-cases, or-left, or-right, eqb-true, eqb-false, eq-eqb, ne-eqb, lt-ltb, le-ltb, cond-true, cond-false}
+use Rattle.memories.specs.Pairs.{Kept, recalls}
 use Rattle.memories.specs.declared.row.Row.{Row}
 use Rattle.memories.specs.Rows.{row, holds, among, keep-row, place-of}
 use Rattle.memories.proofs.Recalling.{recalls-yes, recalls-no}

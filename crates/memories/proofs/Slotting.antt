@@ -1,20 +1,20 @@
 -- Rows by slot: a pair is looked for in the slot of its state alone, so a keep changes the pairs of one slot only.
 use mathlib.Core.Path.{_≡_, refl, sym, _∙_, ap, subst}
-use mathlib.Core.Bool.{Bool, true, false}
+use mathlib.Core.Bool.{true, false}
 use mathlib.Core.List.{List}
-use mathlib.Core.Logic.{_⊎_, inl, inr}
-use Prim.Native.Nat.{ℕ, zero, suc, _≤_, _<_, _+_, _*_, _/_, _^_}
+use mathlib.Core.Logic.{inl, inr}
+use Prim.Native.Nat.{ℕ, _<_, _+_, _*_, _/_, _^_}
 use native.Mathlib.Numerals.{add-one}
 use native.Mathlib.Omega.{arith}
 use lib.Bits.{bitAnd, bitXor}
 use lib.Dec.{eqb, leb}
-use lib.ListN.{length, getD, set, replicate}
+use lib.ListN.{length, getD}
 use Rattle.std.specs.declared.option.Option.{Option}
 use Rattle.std.specs.declared.option.Option.the-variants.{Some, None}
 use Rattle.std.proofs.shelf.Bits.{and-mask, xor-lt, mod-below}
 use Rattle.std.proofs.shelf.Lists.{getD-set-same, getD-set-other, getD-replicate, getD-past, set-past, length-replicate}
 use Rattle.std.proofs.shelf.Tests.{both-ways, cases-eq, cases-lt, and-parts, and-from, eqb-true, eq-eqb, le-leb, lt-leb}
-use Rattle.memories.specs.Pairs.{Pairs, Kept, recalls}
+use Rattle.memories.specs.Pairs.{Kept, recalls}
 use Rattle.memories.specs.declared.row.Row.{Row}
 use Rattle.memories.specs.Rows.{row, holds}
 use Rattle.memories.specs.Slots.{byte-of, xor-bytes, slot-of, taken, slotted, replace-row, vacant-rows}

@@ -1,7 +1,7 @@
 -- Rows that each hold one pair, and how a list of them keeps a new one.
-use mathlib.Core.Bool.{Bool, true, false, cond, _&&_, _||_}
+use mathlib.Core.Bool.{false, cond, _&&_, _||_}
 use mathlib.Core.List.{List, [], _∷_}
-use Prim.Native.Nat.{ℕ, zero, suc, _-_, max}
+use Prim.Native.Nat.{ℕ, suc, _-_, max}
 use lib.Dec.{eqb, ltb}
 use Rattle.memories.specs.Pairs.{Pairs}
 use Rattle.memories.specs.declared.row.Row.{Row}

@@ -1,4 +1,4 @@
-ghost use Prim.Native.Nat.{ℕ, _-_, _<_, _≤_};
+ghost use Prim.Native.Nat.{_-_, _≤_};
 ghost use Rattle.memories.specs.Chains.{Apart, Heads-cover, Heads-own, Heads-within, Links-cover, Links-own, Links-within, state-at};
 ghost use lib.ListN.{length};
 ghost use mathlib.Core.Path.{_≡_};

@@ -4,10 +4,10 @@ ghost use Prim.Native.Nat.{ℕ, _≤_};
 ghost use lib.ListN.{getD, length};
 ghost use Rattle.memories.specs.Lists.{rows-of};
 ghost use Rattle.memories.specs.Rows.{among, keep-row, place-of};
+use super::ListMemory;
 use crate::memory::Memory;
 use crate::row::Row;
 use crate::slots::slot_of;
-use super::ListMemory;
 
 impl ListMemory {
     /// A memory with no row filled.

@@ -1,10 +1,10 @@
 ghost use mathlib.Core.Path.{_≡_};
 ghost use Rattle.memories.specs.Pairs.{recalls};
 ghost use Rattle.memories.specs.Slots.{replace-row, slotted, taken, vacant-rows};
+use super::SlotMemory;
 use crate::memory::Memory;
 use crate::row::Row;
 use crate::slots::slot_of;
-use super::SlotMemory;
 
 impl SlotMemory {
     /// A memory with every row vacant.

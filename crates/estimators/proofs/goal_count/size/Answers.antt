@@ -1,4 +1,4 @@
-use mathlib.Core.Path.{sym, _∙_}
+use mathlib.Core.Path.{_∙_}
 use mathlib.Core.Bool.{true, false, _||_}
 use Rattle.sets.specs.Sets.{has, holds}
 use Rattle.sets.proofs.BitLaws.{bit-or}

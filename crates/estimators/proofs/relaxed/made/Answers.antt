@@ -1,5 +1,5 @@
 use mathlib.Core.Path.{_≡_, sym, _∙_, ap}
-use mathlib.Core.Bool.{Bool, true, false, _&&_}
+use mathlib.Core.Bool.{true, false, _&&_}
 use Rattle.sets.specs.Sets.{has}
 use Rattle.sets.specs.Signs.{says}
 use Rattle.tasks.specs.Bundle.{meaning}

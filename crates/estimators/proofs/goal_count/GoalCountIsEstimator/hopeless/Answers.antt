@@ -1,11 +1,11 @@
 use mathlib.Core.Path.{_≡_, sym, _∙_, ap}
-use mathlib.Core.Bool.{Bool, true, false}
-use Prim.Native.Nat.{ℕ, _*_, _<_, _≤_}
+use mathlib.Core.Bool.{true, false}
+use Prim.Native.Nat.{_*_}
 use native.Mathlib.Nat.{mul-zero}
 use native.Mathlib.Omega.{arith}
 use borrow.Author.Count.{below-more}
 use Rattle.tasks.specs.Bundle.{meaning}
-use Rattle.estimators.specs.GoalCounts.{gains, missings}
+use Rattle.estimators.specs.GoalCounts.{gains}
 use Rattle.estimators.proofs.Gaining.{missing-many, gained-many, idle-gain, none-missing, enough, too-few}
 use Rattle.estimators.proofs.goal_count.GoalCountIsEstimator.hopeless.Needs as need
 use Rattle.estimators.proofs.goal_count.GoalCountIsEstimator.hopeless.Needs.{then-contains·else-left-gain, else-contains}

@@ -1,5 +1,5 @@
 use mathlib.Core.Path.{refl, sym}
-use mathlib.Core.Bool.{Bool, true, false}
+use mathlib.Core.Bool.{false}
 use Rattle.memories.proofs.Recalling.{recalls-no}
 use Rattle.std.proofs.shelf.Tests.{both-ways}
 use Rattle.memories.proofs.none.NoneIsMemory.recall.Needs as need

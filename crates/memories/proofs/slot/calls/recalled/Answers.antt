@@ -1,7 +1,5 @@
-use mathlib.Core.Path.{_≡_, sym, ap, _∙_}
-use native.Mathlib.Omega.{arith}
+use mathlib.Core.Path.{sym}
 use borrow.Author.Needs.{needs}
-use Rattle.memories.specs.Pairs.{recalls}
 use Rattle.memories.specs.Slots.{taken}
 use Rattle.memories.proofs.Slotting.{recalls-vacant, recalls-taken, recalls-other}
 use Rattle.memories.proofs.slot.calls.recalled.Needs as need

@@ -1,9 +1,5 @@
-use mathlib.Core.Path.{_≡_, sym, _∙_, ap, subst}
-use Prim.Native.Nat.{ℕ, _+_, _<_}
 use native.Mathlib.Omega.{arith}
-use lib.ListN.{length, length-set, set, getD}
-use Rattle.memories.specs.Chains.{state-at}
-use Rattle.memories.specs.Rows.{row}
+use lib.ListN.{length-set}
 use Rattle.memories.proofs.Chaining.{chained-added, chained-raised, missed}
 use Rattle.memories.proofs.Keeping.{keep-raises, keep-stays, keep-adds, keep-full}
 use Rattle.memories.proofs.Listing.{chained, fits}

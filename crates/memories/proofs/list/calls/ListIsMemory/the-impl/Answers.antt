@@ -1,5 +1,3 @@
-use mathlib.Core.Path.{refl, sym, subst}
-use Rattle.memories.specs.Pairs.{Kept}
 use Rattle.memories.specs.Lists.{rows-of}
 use Rattle.memories.specs.Rows.{among}
 use Rattle.memories.proofs.Keeping.{kept}

@@ -1,5 +1,4 @@
-use mathlib.Core.Path.{_∙_, ap, sym}
-use mathlib.Core.Bool.{Bool}
+use mathlib.Core.Path.{_∙_, ap}
 use Prim.Native.Nat.{ℕ}
 use lib.ListN.{getD}
 use Rattle.std.specs.declared.option.Option.the-variants.{None}
