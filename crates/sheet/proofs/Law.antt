@@ -7,12 +7,14 @@ use Prim.Native.Nat.{ℕ, _≤_}
 use native.Mathlib.Omega.{arith}
 use lib.Dec.{ltb}
 use lib.ListN.{length}
+use Rattle.std.specs.Vec.{made}
 use Rattle.std.specs.declared.result.Result.{Result}
 use Rattle.std.specs.declared.result.Result.the-variants.{Ok, Err}
 use Rattle.sheet.specs.declared.counts.Counts.{Counts}
 use Rattle.sheet.specs.declared.fault.Fault.{Fault}
 use Rattle.sheet.specs.declared.fault.Fault.the-variants as fault
 use Rattle.sheet.specs.declared.refusal.Refusal.{Refusal}
+use Rattle.sheet.specs.Actions.{Accepted}
 use Rattle.sheet.specs.Dues.{refuse}
 use Rattle.sheet.specs.Faults.{number}
 use Rattle.sheet.specs.Sheet.{Tables, Read, Read-into, sheet, short, reading, written}
@@ -38,3 +40,14 @@ lawful bs before after (Err e) h = λ high v w s.
     (lined (ltb 32768 (length bs)) fault.TooLong _ e (omega arith) high (agree-err _ (reading bs before) e h)) in
     let both : _≡_ {A = Result Read Refusal} (Err e) (Ok (meaning v)) = sym is ∙ ap sheet s ∙ its-reading v w in
     grind arith
+
+-- what is accepted with tables is accepted without
+untabled : (b c : Bool) (f g : Refusal) (r : Result Read Refusal) (x : Read) → cond b (Err f) (cond c (Err g) r) ≡ Ok x → cond b (Err f) r ≡ Ok x
+untabled true c f g r x e = absurd (grind arith)
+untabled false c f g r x e = passed c g r x e
+
+pub accepted-read : (bs : List ℕ) (before after : Tables) (r : Result Counts Refusal) → Read-into bs before after r → made r (Accepted bs)
+accepted-read bs before after (Ok c) h =
+    let p = agree-ok _ (reading bs before) c h in
+    (p .0, untabled (ltb 32768 (length bs)) (short before) _ _ (sheet bs) (p .0) (p .1), p .2 .0)
+accepted-read bs before after (Err e) h = tt

@@ -7,7 +7,7 @@ use Rattle.std.specs.declared.result.Result.the-variants.{Ok}
 use Rattle.sheet.specs.Lines.{lines}
 use Rattle.sheet.specs.Words.{words}
 use Rattle.sheet.proofs.ActionNames.{accepted-limits, its-name, short-name, line-at}
-use Rattle.sheet.proofs.actions.name_in.Needs as need
+use Rattle.sheet.proofs.names.name_in.Needs as need
 
 pub add-counts : need.add-counts
 add-counts c = let l = accepted-limits (c .args .sheet .now) (c .args .counts) (c .pre .accepted) in omega (arith, l .1)
