@@ -1,8 +1,7 @@
 -- What the calls promise, from what the loop and the restrictions leave.
 use mathlib.Core.Path.{_≡_, refl, sym, ap, _∙_, subst}
 use mathlib.Core.Bool.{Bool, true, false}
-use mathlib.Core.List.{List}
-use Prim.Native.Nat.{ℕ, _+_, _<_, _≤_, min}
+use Prim.Native.Nat.{ℕ, _+_, _≤_, min}
 use native.Mathlib.Omega.{arith}
 use lib.Dec.{ltb}
 use Rattle.std.specs.declared.result.Result.the-variants.{Ok}
@@ -18,7 +17,7 @@ use Rattle.filter.specs.declared.stages.StageSet.{StageSet}
 use Rattle.filter.specs.Structures.{Structure, Below, trimmed, bare}
 use Rattle.filter.specs.Filtering.{Consistent, Filtered}
 use Rattle.filter.specs.Filtering.Filtered.{kept, wiped}
-use Rattle.filter.specs.Parts.{structure, Same-past}
+use Rattle.filter.specs.Parts.{structure}
 use Rattle.filter.specs.Stages.{marked}
 use Rattle.filter.specs.Loops.{Settling, Steps-restricted, Levels-restricted}
 use Rattle.filter.specs.Calls.{stands, Filters, Filters-from, Loses-no-plan}

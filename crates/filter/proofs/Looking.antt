@@ -1,11 +1,11 @@
 -- One more action looked at: where it fits it joins those left, and what they make and need in common is brought up to date.
-use mathlib.Core.Path.{_≡_, refl, sym, ap, _∙_, subst}
+use mathlib.Core.Path.{_≡_, refl, sym, _∙_, subst}
 use mathlib.Core.Bool.{Bool, true, false, not, _&&_, _||_}
 use mathlib.Core.Logic.{_⊎_, inl, inr}
 use Prim.Native.Nat.{ℕ, _<_}
 use lib.Dec.{eqb, ltb}
 use lib.IntN.{ℤ}
-use Rattle.std.proofs.shelf.Tests.{or-cases, or-left, or-right, or-from, and-parts, and-from, eqb-true, eq-eqb, both-ways, cases-bool, cases-lt, lt-ltb, ltb-true}
+use Rattle.std.proofs.shelf.Tests.{or-cases, or-left, or-right, or-from, and-parts, and-from, eqb-true, eq-eqb, both-ways, cases-bool, cases-lt, lt-ltb}
 use Rattle.sets.specs.Sets.{has, among}
 use Rattle.sets.specs.Signs.{says}
 use Rattle.sets.specs.declared.actions.ActionSet.{ActionSet}

@@ -1,12 +1,12 @@
--- From a part as it is stored to its structure: the two agree up to the round, so what the loop leaves is what filtering leaves.
+-- From a part as it is stored to its structure: the two agree up to the round, so what the loop leaves is what filtering
+-- leaves.
 use mathlib.Core.Path.{_≡_, refl, sym, ap, ap₂, _∙_, subst, fun-ext}
 use mathlib.Core.Bool.{Bool, true, false, _&&_, _||_}
-use Prim.Native.Nat.{ℕ, suc, _+_, _<_, _≤_, min}
+use Prim.Native.Nat.{ℕ, suc, _+_, _<_, _≤_}
 use native.Mathlib.Omega.{arith}
-use native.Mathlib.Numerals.{add-one}
 use lib.Dec.{ltb, leb}
 use lib.ListN.{getD}
-use Rattle.std.proofs.shelf.Tests.{and-parts, and-from, and-left, and-right, ltb-true, leb-true, lt-ltb, le-leb, both-ways, cases-bool}
+use Rattle.std.proofs.shelf.Tests.{and-parts, and-from, ltb-true, leb-true, lt-ltb, le-leb, both-ways}
 use Rattle.sets.specs.Sets.{has, among}
 use Rattle.sets.specs.declared.actions.ActionSet.{ActionSet}
 use Rattle.sets.specs.declared.literals.Literals.{Literals}
@@ -14,12 +14,12 @@ use Rattle.tasks.specs.Meaning.{Meaning}
 use Rattle.filter.specs.declared.part.Part.{Part}
 use Rattle.filter.specs.declared.stages.StageSet.{StageSet}
 use Rattle.filter.specs.Structures.{Structure, Below, trimmed, bare}
-use Rattle.filter.specs.Rules.{Stage, stage, Settled}
-use Rattle.filter.specs.Filtering.{Consistent, Consistent-stage, Largest, Filtered}
+use Rattle.filter.specs.Rules.{stage, Settled}
+use Rattle.filter.specs.Filtering.{Consistent, Consistent-stage, Filtered}
 use Rattle.filter.specs.Filtering.Filtered.{kept, wiped}
 use Rattle.filter.specs.Parts.{step-at, level-at, structure, Same-past, no-literals, no-actions}
 use Rattle.filter.specs.Loops.{Steps-restricted, Levels-restricted}
-use Rattle.filter.specs.Turns.{raw, Factual, Narrowed}
+use Rattle.filter.specs.Turns.{raw, Factual}
 use Rattle.filter.specs.Stages.{Consistent-but-at}
 use Rattle.filter.proofs.Looking.{falls}
 use Rattle.filter.proofs.Uniqueness.{both-follow, same-structure}

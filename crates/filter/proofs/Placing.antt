@@ -1,11 +1,12 @@
--- A part with one stage put in place: what holds of the new stage and of the old rest holds of every step and level, and so does what they weigh.
+-- A part with one stage put in place: what holds of the new stage and of the old rest holds of every step and level, and
+-- so does what they weigh.
 use mathlib.Core.Path.{_≡_, refl, sym, ap, ap₂, _∙_, subst}
 use mathlib.Core.Bool.{Bool, true, false, not, cond}
 use mathlib.Core.List.{List}
-use mathlib.Core.Logic.{_⊎_, inl, inr}
+use mathlib.Core.Logic.{inl, inr}
 use Prim.Native.Nat.{ℕ, suc, _+_, _<_, _≤_}
 use native.Mathlib.Omega.{arith}
-use lib.ListN.{length, getD, set, length-set}
+use lib.ListN.{getD, set, length-set}
 use lib.Seq.{getD-set-same, getD-set-other}
 use Rattle.std.specs.Orderings.{Decides}
 use Rattle.std.specs.shelf.Lists.{sumBy}
@@ -16,7 +17,6 @@ use Rattle.sets.specs.declared.literals.Literals.{Literals}
 use Rattle.filter.specs.declared.part.Part.{Part}
 use Rattle.filter.specs.declared.stage.StageMasks.{StageMasks}
 use Rattle.filter.specs.Parts.{no-actions, no-literals, step-at, level-at, Same-past}
-use Rattle.filter.specs.Revising.{Fewer}
 use Rattle.filter.specs.Turns.{stage-at, Placed, size, bulk, weight}
 
 module _ (p : Part) (i : ℕ) (h : StageMasks) (q : Part) (pl : Placed p i h q) (lt : i < 30) where

@@ -1,5 +1,6 @@
--- What one revision of a stage leaves is right: each line of it is one rule, so a settled stage below loses nothing, and where nothing went no rule applies.
-use mathlib.Core.Path.{_≡_, refl, sym, ap, _∙_, subst}
+-- What one revision of a stage leaves is right: each line of it is one rule, so a settled stage below loses nothing, and
+-- where the values before stayed as they were no rule applies to what is left.
+use mathlib.Core.Path.{_≡_, refl, sym, _∙_, subst}
 use mathlib.Core.Bool.{Bool, true, false, not, _&&_, _||_}
 use mathlib.Core.Logic.{_⊎_, inl, inr}
 use Prim.Native.Nat.{ℕ, _<_, _^_}
@@ -8,7 +9,7 @@ use Rattle.std.proofs.shelf.Tests.{cases-bool, or-cases, or-from, or-parts, and
 use Rattle.sets.proofs.BitLaws.{sub-le}
 use Rattle.sets.specs.Sets.{has, among}
 use Rattle.sets.specs.declared.literals.Literals.{Literals}
-use Rattle.tasks.specs.Meaning.{Meaning, Lawful, value, opposite}
+use Rattle.tasks.specs.Meaning.{Meaning, Lawful, value}
 use Rattle.filter.specs.declared.stage.StageMasks.{StageMasks}
 use Rattle.filter.specs.declared.stage.Survey.{Survey}
 use Rattle.filter.specs.Kernel.{Fit, Surveyed}
@@ -114,7 +115,8 @@ module _ (m : Meaning) (lw : Lawful m) (g : StageMasks) (all required : Literals
       old-before : (f : ℕ) (v b : Bool) → has before f v ≡ b → has (g .before) f v ≡ b
       old-before f v b k = subst (λ (y : Literals). has y f v ≡ b) same-before k
 
-      -- a value that the revision took away after the step: all actions left make its opposite, or it was not possible before and none makes it
+      -- a value that the revision took away after the step: all actions left make its opposite, or it was not possible
+      -- before and none makes it
       taken : (f : ℕ) (v : Bool) → has (g .after) f v ≡ true → has after f v ≡ false → (has (s .agreed) f (not v) ≡ true) ⊎ ((has (g .before) f v ≡ false) × (has (s .made) f v ≡ false))
       taken f v was gone =
           elim (cases-bool (has (s .agreed) f (not v))) [

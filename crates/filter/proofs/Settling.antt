@@ -1,13 +1,14 @@
--- The loop: it begins with nothing lost, each turn goes on from the last, and where nothing is due in the end every stage is consistent.
+-- The loop: it begins with nothing lost, each turn goes on from the last, and where nothing is due in the end every stage
+-- is consistent.
 use mathlib.Core.Path.{_≡_, refl, sym, ap, _∙_, subst}
 use mathlib.Core.Bool.{Bool, true, false, not, _&&_, _||_}
-use mathlib.Core.Logic.{_⊎_, inl, inr}
-use Prim.Native.Nat.{ℕ, zero, suc, _+_, _*_, _^_, _<_, _≤_, min}
+use mathlib.Core.Logic.{inl, inr}
+use Prim.Native.Nat.{ℕ, zero, suc, _^_, _<_, _≤_, min}
 use native.Mathlib.Omega.{arith}
 use lib.Dec.{eqb, ltb}
 use Rattle.std.specs.declared.option.Option.the-variants.{None, Some}
 use Rattle.std.proofs.shelf.Tests.{both-ways, and-parts, and-cases, ltb-true, lt-ltb}
-use Rattle.sets.specs.Sets.{has, among}
+use Rattle.sets.specs.Sets.{has}
 use Rattle.sets.specs.declared.literals.Literals.{Literals}
 use Rattle.tasks.specs.Meaning.{Meaning}
 use Rattle.filter.specs.declared.part.Part.{Part}
@@ -18,7 +19,7 @@ use Rattle.filter.specs.Filtering.{Consistent, Consistent-stage}
 use Rattle.filter.specs.Kernel.{Covers}
 use Rattle.filter.specs.Parts.{step-at, level-at, Same-past}
 use Rattle.filter.specs.Stages.{marked, Consistent-but-at}
-use Rattle.filter.specs.Turns.{raw, weight, burden, Under, Factual, Narrowed, Turned, Progressed}
+use Rattle.filter.specs.Turns.{raw, burden, Factual, Narrowed, Turned, Progressed}
 use Rattle.filter.specs.Loops.{Settling}
 use Rattle.filter.proofs.Looking.{gone}
 use Rattle.filter.proofs.Turning.{covered, covering, rise}

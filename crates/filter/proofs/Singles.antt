@@ -1,8 +1,9 @@
--- Where the first steps have one action left each, the levels up to there are the states that these actions reach: by induction on the level.
+-- Where the first steps have one action left each, the levels up to there are the states that these actions reach: by
+-- induction on the level.
 use mathlib.Core.Path.{_≡_, refl, sym, ap, _∙_, subst}
 use mathlib.Core.Bool.{Bool, true, false, not, _||_}
 use mathlib.Core.List.{List, [], _∷_}
-use mathlib.Core.Logic.{_⊎_, inl, inr}
+use mathlib.Core.Logic.{inl, inr}
 use Prim.Native.Nat.{ℕ, zero, suc, _<_, _≤_}
 use native.Mathlib.Omega.{arith}
 use lib.ListN.{length, getD}

@@ -1,20 +1,21 @@
--- The trace of a plan is consistent: its actions meet their needs and what they make is so after them. What filtering leaves has it, since it is the largest.
+-- The trace of a plan is consistent: its actions meet their needs and what they make is so after them. What filtering
+-- leaves has it, since it is the largest.
 use mathlib.Core.Path.{_≡_, refl, sym, ap, _∙_, subst}
 use mathlib.Core.Bool.{Bool, true, false, not, _&&_, _||_}
 use mathlib.Core.List.{List, [], _∷_}
-use mathlib.Core.Logic.{_⊎_, inl, inr}
+use mathlib.Core.Logic.{inl, inr}
 use Prim.Native.Nat.{ℕ, zero, suc, _<_, _≤_}
 use native.Mathlib.Omega.{arith}
 use lib.Dec.{eqb, ltb, leb}
 use lib.ListN.{length, getD}
-use Rattle.std.proofs.shelf.Tests.{cases-lt, both-ways, and-parts, and-from, and-cases, or-left, or-right, eqb-true, eq-eqb, ltb-true, lt-ltb, le-leb, leb-true}
+use Rattle.std.proofs.shelf.Tests.{both-ways, and-parts, and-from, and-cases, or-left, or-right, eqb-true, eq-eqb, lt-ltb, le-leb}
 use Rattle.sets.specs.Bits.{bit}
 use Rattle.sets.specs.Signs.{is}
-use Rattle.tasks.specs.Meaning.{Meaning, Lawful, value, opposite}
+use Rattle.tasks.specs.Meaning.{Meaning, Lawful, value}
 use Rattle.tasks.specs.States.{put, Applies, after, Reaches, Solves, start-state, state-at}
 use Rattle.filter.specs.Structures.{Structure, Below, trimmed}
-use Rattle.filter.specs.Rules.{stage, Settled, Closed}
-use Rattle.filter.specs.Filtering.{Consistent, Filtered}
+use Rattle.filter.specs.Rules.{stage, Settled}
+use Rattle.filter.specs.Filtering.{Consistent}
 use Rattle.filter.specs.Filtering.Filtered.{kept, wiped}
 use Rattle.filter.specs.Plans.{trace, Inside}
 use Rattle.filter.specs.Theorems.{The-trace-of-a-plan-is-consistent, Filtering-loses-no-plan}

@@ -1,27 +1,27 @@
--- One turn: a revised stage in place narrows the part, and each stage that is not due is consistent: revised with its levels unchanged, or not touched at all.
-use mathlib.Core.Path.{_≡_, refl, sym, ap, _∙_, subst}
-use mathlib.Core.Bool.{Bool, true, false, not, _||_}
+-- One turn: a revised stage in place narrows the part, and each stage that is not due is consistent: revised with the
+-- level before it unchanged, or not touched at all.
+use mathlib.Core.Path.{_≡_, refl, sym, _∙_, subst}
+use mathlib.Core.Bool.{Bool, true, false, _||_}
 use mathlib.Core.Logic.{_⊎_, inl, inr}
-use Prim.Native.Nat.{ℕ, suc, _+_, _<_, _≤_}
+use Prim.Native.Nat.{ℕ, suc, _<_, _≤_}
 use native.Mathlib.Omega.{arith}
 use lib.Dec.{ltb}
-use Rattle.std.proofs.shelf.Tests.{both-ways, cases-eq, cases-bool, or-cases, or-left, or-right, ltb-true, lt-ltb, false≢true}
+use Rattle.std.proofs.shelf.Tests.{both-ways, cases-eq, cases-bool, or-cases, or-left, or-right, ltb-true, lt-ltb}
 use Rattle.std.specs.declared.option.Option.the-variants.{Some}
 use Rattle.sets.specs.Sets.{has, among}
-use Rattle.sets.specs.declared.actions.ActionSet.{ActionSet}
 use Rattle.sets.specs.declared.literals.Literals.{Literals}
 use Rattle.tasks.specs.Meaning.{Meaning}
 use Rattle.filter.specs.declared.part.Part.{Part}
 use Rattle.filter.specs.declared.stage.StageMasks.{StageMasks}
 use Rattle.filter.specs.declared.stages.StageSet.{StageSet}
 use Rattle.filter.specs.Structures.{Structure, Below}
-use Rattle.filter.specs.Rules.{Stage, stage}
+use Rattle.filter.specs.Rules.{stage}
 use Rattle.filter.specs.Filtering.{Consistent, Consistent-stage}
 use Rattle.filter.specs.Kernel.{Covers, Whole-stage}
 use Rattle.filter.specs.Parts.{step-at, level-at}
-use Rattle.filter.specs.Revising.{Revised, Stage-below, Of-task, view}
+use Rattle.filter.specs.Revising.{Revised, Stage-below, view}
 use Rattle.filter.specs.Stages.{marked}
-use Rattle.filter.specs.Turns.{stage-at, raw, Placed, size, bulk, weight, Factual, Touched, Narrowed, Under, Turned}
+use Rattle.filter.specs.Turns.{stage-at, raw, Placed, weight, Factual, Touched, Narrowed, Turned}
 use Rattle.filter.proofs.Looking.{falls}
 use Rattle.filter.proofs.Placing.{at-level, at-step, step-other, stage-here, same-past, weighs, lighter}
 use Rattle.filter.proofs.Revision.{down}

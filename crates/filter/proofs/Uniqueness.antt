@@ -3,10 +3,9 @@ use mathlib.Core.Path.{_≡_, refl, sym, ap, ap₂, _∙_, subst, fun-ext}
 use mathlib.Core.Bool.{Bool, true, false, _&&_}
 use Prim.Native.Nat.{ℕ, _<_, _≤_}
 use lib.Dec.{ltb, leb}
-use Rattle.std.proofs.shelf.Tests.{and-parts, ltb-true, leb-true, false≢true}
+use Rattle.std.proofs.shelf.Tests.{and-parts, ltb-true, leb-true}
 use Rattle.tasks.specs.Meaning.{Meaning}
-use Rattle.filter.specs.Structures.{Structure, Below, trimmed, bare}
-use Rattle.filter.specs.Filtering.{Consistent, Largest, Filtered}
+use Rattle.filter.specs.Structures.{Structure, Below, trimmed}
 use Rattle.filter.specs.Filtering.Filtered.{kept, wiped}
 use Rattle.filter.specs.Theorems.{Filtering-has-one-result}
 

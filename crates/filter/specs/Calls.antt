@@ -24,7 +24,8 @@ abbrev pub stands : Outcome → Bool
 stands Kept = true
 stands Wiped = false
 
--- Filtering: of a part of a round up to 30 it leaves what is consistent, or nothing, and what is past the round stays. A higher round is refused, and the part stays as it is.
+-- Filtering: of a part of a round up to 30 it leaves what is consistent, or nothing, and what is past the round stays. A
+-- higher round is refused, and the part stays as it is.
 abbrev pub Filters : Meaning → Part → Result Outcome Refusal → Part → Type 0
 Filters m p (Ok o) q = (p .round ≤ 30) × Filtered m (structure p) (stands o) (structure q) × Same-past p q
 Filters m p (Err e) q = (30 < p .round) × (e ≡ Round) × (q ≡ p)
@@ -38,7 +39,8 @@ abbrev pub Narrows : Meaning → Structure → Outcome → Structure → Type 0
 Narrows m p Kept q = Below q p × ((x : Structure) → Consistent m x → Below x (trimmed m p) → Below x q)
 Narrows m p Wiped q = (q ≡ bare (p .round)) × ((x : Structure) → Consistent m x → Below x (trimmed m p) → ⊥)
 
--- Filtering from the stages of a set: it never loses anything consistent, and of a part that has only numbers of the task and is consistent at every other stage it leaves what filtering leaves.
+-- Filtering from the stages of a set: it never loses anything consistent, and of a part that has only numbers of the task
+-- and is consistent at every other stage it leaves what filtering leaves.
 abbrev pub Filters-from : StageSet → Meaning → Part → Result Outcome Refusal → Part → Type 0
 Filters-from due m p (Ok o) q =
     (p .round ≤ 30) × Narrows m (structure p) o (structure q) × Same-past p q

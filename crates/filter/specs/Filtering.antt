@@ -6,7 +6,8 @@ use Rattle.tasks.specs.Meaning.{Meaning}
 use Rattle.filter.specs.Structures.{Structure, Below, trimmed, bare}
 use Rattle.filter.specs.Rules.{Closed, Stage, Settled}
 
--- A structure is consistent: no rule removes anything, an action is left at each step, and a value of each fact at each level.
+-- A structure is consistent: no rule removes anything, an action is left at each step, and a value of each fact at each
+-- level.
 pub record Consistent (m : Meaning) (p : Structure) : Type 0 where
   pub closed : Closed m p
   pub action : (i : ℕ) → i < p .round → ((a : ℕ) → p .left i a ≡ false) → ⊥

@@ -14,7 +14,8 @@ use Rattle.filter.specs.Parts.{step-at, level-at, Same-past}
 use Rattle.filter.specs.Stages.{Consistent-but-at}
 use Rattle.filter.specs.Turns.{raw, Factual, Narrowed}
 
--- The loop ended: nothing consistent was lost, and the part is consistent if it was at the stages that were not due; or nothing consistent is below it.
+-- The loop ended: nothing consistent was lost, and the part is consistent if it was at the stages that were not due; or
+-- nothing consistent is below it.
 abbrev pub Settling : Meaning → Part → StageSet → Bool → Part → Type 0
 Settling m p due true q = Narrowed m p q × (Consistent-but-at due m (raw p) → Consistent m (raw q))
 Settling m p due false q = ((x : Structure) → Consistent m x → Factual m x → Below x (raw p) → ⊥) × (q .round ≡ p .round) × Same-past p q

@@ -2,7 +2,7 @@
 use mathlib.Core.Path.{_≡_}
 use mathlib.Core.Bool.{Bool, true, _&&_}
 use mathlib.Core.List.{List}
-use Prim.Native.Nat.{ℕ, _<_, _≤_}
+use Prim.Native.Nat.{ℕ, _<_}
 use lib.Dec.{eqb, ltb, leb}
 use lib.ListN.{length, getD}
 use Rattle.sets.specs.Bits.{bit}
@@ -11,7 +11,8 @@ use Rattle.tasks.specs.Meaning.{Meaning}
 use Rattle.tasks.specs.States.{Holds, packed, start-state, state-at}
 use Rattle.filter.specs.Structures.{Structure, Below}
 
--- The trace of a sequence of actions: at each step its action, at each level the values of the facts in the state that it has reached.
+-- The trace of a sequence of actions: at each step its action, at each level the values of the facts in the state that it
+-- has reached.
 abbrev pub trace : Meaning → List ℕ → Structure
 trace m acts = record {
   round = length acts;

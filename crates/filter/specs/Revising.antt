@@ -30,7 +30,8 @@ pub record Fewer (h g : StageMasks) : Type 0 where
   pub after-trues : h .after .trues ≤ g .after .trues
   pub after-falses : h .after .falses ≤ g .after .falses
 
--- h is left of g: nothing is added, nothing that a settled stage below g has is lost, and where the values before stayed as they were and nothing is empty, h is settled.
+-- h is left of g: nothing is added, nothing that a settled stage below g has is lost, and where the values before stayed
+-- as they were and nothing is empty, h is settled.
 pub record Revised (m : Meaning) (g h : StageMasks) : Type 0 where
   pub less : Stage-below (view h) (view g)
   pub keeps : (x : Stage) → Settled m x → Of-task m x → Stage-below x (view g) → Stage-below x (view h)

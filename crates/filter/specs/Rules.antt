@@ -1,4 +1,5 @@
--- The seven rules by which actions and values are removed. Each looks at one stage: a level, the step after it, and the level after that.
+-- The seven rules by which actions and values are removed. Each looks at one stage: a level, the step after it, and the
+-- level after that.
 use mathlib.Core.Path.{_≡_}
 use mathlib.Core.Bool.{Bool, true, false, not}
 use Prim.Native.Nat.{ℕ, suc, _<_}

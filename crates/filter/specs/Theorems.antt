@@ -22,7 +22,8 @@ abbrev pub Filtering-loses-no-plan : Type 0
 Filtering-loses-no-plan = (m : Meaning) → Lawful m → (p q : Structure) (stands : Bool) → Filtered m p stands q
     → (acts : List ℕ) → Solves m acts → Inside m p acts → (stands ≡ true) × Inside m q acts
 
--- Where the first steps of a consistent structure within start and goals have one action each, the levels up to there are the states that these actions reach.
+-- Where the first steps of a consistent structure within start and goals have one action each, the levels up to there are
+-- the states that these actions reach.
 abbrev pub A-level-after-single-steps-is-a-state : Type 0
 A-level-after-single-steps-is-a-state = (m : Meaning) → Lawful m → (p : Structure) → Consistent m p → Anchored m p
     → (acts : List ℕ) → length acts ≤ p .round → Fixes p acts → (j : ℕ) → j ≤ length acts → state-of m p j ≡ state-at m (start-state m) acts j

@@ -56,7 +56,8 @@ Under limit due = (i : ℕ) → marked due i ≡ true → i < limit
 abbrev pub Factual : Meaning → Structure → Type 0
 Factual m x = (i f : ℕ) (v : Bool) → i ≤ x .round → x .possible i f v ≡ true → f < m .facts
 
--- The stages due after stage i has changed: those that were, stage i where the level before it changed, and the neighbour of a level that changed.
+-- The stages due after stage i has changed: those that were, stage i where the level before it changed, and the neighbour
+-- of a level that changed.
 pub record Touched (due : StageSet) (i round : ℕ) (before after : Bool) (r : StageSet) : Type 0 where
   pub old : (j : ℕ) → marked due j ≡ true → marked r j ≡ true
   pub here : before ≡ true → marked r i ≡ true

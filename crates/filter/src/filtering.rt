@@ -37,8 +37,8 @@ pub fn filter_snapshot(snapshot: &Snapshot, part: &mut Part) -> Result<Outcome, 
     check_round(part)?;
     restrict_steps(part, all_actions(snapshot));
     restrict_levels(part, all_literals(snapshot));
-    let due = StageSet::below(part.round);
-    Ok(narrow(snapshot, part, due))
+    let every = StageSet::below(part.round);
+    Ok(narrow(snapshot, part, every))
 }
 
 /// The same for a part that is consistent but at the stages of `due`, and has only numbers of the task.

@@ -1,4 +1,5 @@
-//! The filter of a planner. `part` has what is filtered, `stages` and `outcome` what goes with it, `filtering` the calls, `theorems` what
+//! The filter of a planner. `part` has what is filtered, `stages` and `outcome` what goes with it, `filtering` the calls,
+//! `theorems` what
 //! holds of them for every task. Below them `turns` revises one stage at a time, and `stage` has the rules as masks.
 
 pub mod filtering;

@@ -92,7 +92,8 @@ fn look_over<T: Task>(task: &T, stage: StageMasks, required: Literals) -> Survey
     }
 }
 
-// Whether an action may stay: what it needs is possible before, what it makes is possible after, and it makes what is required.
+// Whether an action may stay: what it needs is possible before, what it makes is possible after, and it makes what is
+// required.
 fn fits(row: Row, stage: StageMasks, required: Literals) -> bool
     ensures value { λ r. ⌜ Decides r (Fits row stage required) ⌝ }
 {

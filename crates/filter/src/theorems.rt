@@ -1,3 +1,4 @@
+//! What holds of filtering and of plans, for every task.
 ghost use Rattle.filter.specs.Theorems.{Filtering-has-one-result, The-trace-of-a-plan-is-consistent, Filtering-loses-no-plan, A-level-after-single-steps-is-a-state, Single-steps-are-a-plan};
 
 /// What holds of filtering and of plans, for every task; the call itself does nothing.

@@ -11,7 +11,6 @@ use crate::part::Part;
 use crate::stage::StageMasks;
 use crate::stage::revise;
 use crate::stages::StageSet;
-use sets::literals::Literals;
 use sets::literals::LiteralsPartialEq;
 use tasks::task::Task;
 

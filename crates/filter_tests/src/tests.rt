@@ -1,7 +1,6 @@
 //! Each rule alone removes something; strays; the smallest and the largest round; refusals.
 use filter::Outcome;
 use filter::Part;
-use filter::Refusal;
 use filter::StageSet;
 use filter::filter;
 use filter::filter_from;

@@ -1,16 +1,16 @@
 -- The bits of what the operators on words give, over any width: each law by induction on the width, a bit at a time.
-use mathlib.Core.Path.{_≡_, refl, sym, ap, ap₂, _∙_, subst}
+use mathlib.Core.Path.{_≡_, refl, sym, ap, _∙_}
 use mathlib.Core.Bool.{Bool, true, false, not, _&&_, _||_}
-use mathlib.Core.Logic.{_⊎_, inl, inr, ⊎-elim}
-use Prim.Native.Nat.{ℕ, zero, suc, _+_, _-_, _*_, _/_, _%_, _^_, _<_, _≤_, min, max}
-use native.Mathlib.Nat.{pow-suc, pow-zero, div-one, zero-div, div-div-eq-div-mul, mul-comm, mod-lt, div-eq-of-lt}
+use mathlib.Core.Logic.{_⊎_, inl, inr}
+use Prim.Native.Nat.{ℕ, zero, suc, _-_, _*_, _/_, _%_, _^_, _<_, _≤_, min, max}
+use native.Mathlib.Nat.{pow-suc, div-one, zero-div, div-div-eq-div-mul, mul-comm, div-eq-of-lt}
 use native.Mathlib.Omega.{arith}
-use lib.Dec.{eqb, ltb, eqb·suc-suc, eqb·suc-zero, eqb·zero-suc}
+use lib.Dec.{eqb, ltb, eqb·suc-suc, eqb·suc-zero}
 use lib.Count.{trailingZeros}
 use lib.Bits.{bitAnd, bitOr, and-step, or-step, and-shr, or-shr, and-mask, or-add-and, and-le-l, and-le-r}
 use Rattle.std.proofs.shelf.Bits.{one-shl}
-use lib.Pow.{pow-pos, pow-lt, pow-mono}
-use Rattle.std.proofs.shelf.Tests.{eqb-true, eqb-false, eq-eqb, ne-eqb, ltb-true, ltb-false, lt-ltb, le-ltb, cases-lt, cases-eq, cases-bool, both-ways}
+use lib.Pow.{pow-pos, pow-mono}
+use Rattle.std.proofs.shelf.Tests.{cases-lt, cases-eq, both-ways}
 use Rattle.std.proofs.shelf.Ways.{tells}
 use Rattle.sets.specs.Bits.{bit}
 
@@ -204,7 +204,3 @@ low-least (suc w) n (suc i) e =
       | inl d ↦ rw d (let k : trailingZeros w (n / 2) ≤ i = low-least w (n / 2) i (sym (bit-suc n i) ∙ e) in omega arith)
       | inr d ↦ rw d (omega arith)
     ]
-
--- all w bits
-pub bit-full : (w i : ℕ) → bit (2 ^ w - 1) i ≡ ltb i w
-bit-full w i = bit-ones w i

@@ -1,15 +1,13 @@
 -- Sets with the same members are the same set.
-use mathlib.Core.Path.{_≡_, refl, sym, ap, ap₂, _∙_}
+use mathlib.Core.Path.{_≡_, refl, sym, ap, ap₂}
 use mathlib.Core.Bool.{Bool, true, false, not, _&&_, _||_}
 use Rattle.std.proofs.shelf.Tests.{false≢true}
-use Prim.Native.Nat.{ℕ, _^_, _<_, _≤_}
-use native.Mathlib.Omega.{arith}
-use Rattle.sets.specs.Bits.{bit}
+use Prim.Native.Nat.{ℕ, _^_, _<_}
 use Rattle.sets.specs.Sets.{has, holds, among}
 use Rattle.sets.specs.declared.facts.FactSet.{FactSet}
 use Rattle.sets.specs.declared.literals.Literals.{Literals}
 use Rattle.sets.specs.declared.actions.ActionSet.{ActionSet}
-use Rattle.sets.proofs.BitLaws.{bit-ext, bit-high, bit-below, sub-le}
+use Rattle.sets.proofs.BitLaws.{bit-ext, bit-below}
 
 pub facts-same : (s t : FactSet) → s .bits < 2 ^ 64 → t .bits < 2 ^ 64 → ((f : ℕ) → holds s f ≡ holds t f) → s ≡ t
 unfolding holds

@@ -1,19 +1,18 @@
 -- A word of w bits as a set: what each method of the set types answers, over any width.
-use mathlib.Core.Path.{_≡_, refl, sym, ap, _∙_}
+use mathlib.Core.Path.{_≡_, refl}
 use mathlib.Core.Bool.{Bool, true, false, not, _&&_, _||_}
-use mathlib.Core.Logic.{_⊎_, inl, inr}
-use Prim.Native.Nat.{ℕ, zero, suc, _+_, _-_, _*_, _/_, _%_, _^_, _<_, _≤_, min}
+use mathlib.Core.Logic.{inl, inr}
+use Prim.Native.Nat.{ℕ, _+_, _-_, _*_, _%_, _^_, _<_, _≤_, min}
 use native.Mathlib.Omega.{arith}
 use lib.Bits.{bitAnd, bitOr, and-le-l}
-use lib.Count.{ones, trailingZeros}
+use lib.Count.{trailingZeros}
 use lib.Dec.{eqb, ltb}
 use Rattle.std.specs.Orderings.{Decides}
 use Rattle.std.proofs.shelf.Bits.{one-shl}
-use Rattle.std.proofs.shelf.Tests.{cases-eq, cases-bool, both-ways, eq-eqb, ne-eqb, eqb-true, lt-ltb, le-ltb}
-use Rattle.std.proofs.shelf.Ways.{tells}
+use Rattle.std.proofs.shelf.Tests.{cases-eq, eq-eqb, ne-eqb, eqb-true, lt-ltb, le-ltb}
 use Rattle.sets.specs.Bits.{bit}
 use Rattle.sets.specs.Counts.{Empty, Lowest, count}
-use Rattle.sets.proofs.BitLaws.{bit-ones, bit-with, bit-test, bit-high, bit-none, bit-below, no-bits, low-set, low-least, low-drop}
+use Rattle.sets.proofs.BitLaws.{bit-ones, bit-with, bit-none, bit-below, no-bits, low-set, low-least, low-drop}
 use Rattle.sets.proofs.Counting.{count-ext, count-drop, count-none, none-count}
 
 -- `(1 << k) - 1` has the numbers below k

@@ -1,10 +1,10 @@
+//! Sets of actions.
 ghost use mathlib.Core.Path.{_≡_};
-ghost use mathlib.Core.Bool.{not, _&&_, _||_};
+ghost use mathlib.Core.Bool.{true, false, not, _&&_, _||_};
 ghost use Prim.Native.Nat.{ℕ, _<_, min};
 ghost use lib.Dec.{eqb, ltb};
 ghost use Rattle.std.specs.Options.{Cases, isSome};
 ghost use Rattle.std.specs.Orderings.{Decides};
-ghost use mathlib.Core.Bool.{true, false};
 ghost use Rattle.sets.specs.Sets.{among};
 ghost use Rattle.sets.specs.Counts.{Empty, Lowest, Popped, count};
 

@@ -1,3 +1,4 @@
+//! Sets of literals.
 use crate::facts::FactSet;
 ghost use mathlib.Core.Path.{_≡_};
 ghost use mathlib.Core.Bool.{Bool, true, false, not, _&&_, _||_};
@@ -8,7 +9,8 @@ ghost use Rattle.sets.specs.Bits.{bit};
 ghost use Rattle.sets.specs.Signs.{says, is};
 ghost use Rattle.sets.specs.Sets.{has, holds};
 
-/// A set of literals over facts that are numbered below 64: bit f of `trues` is the literal that fact f is true, bit f of `falses` that it is false.
+/// A set of literals over facts that are numbered below 64: bit f of `trues` is the literal that fact f is true, bit f of
+/// `falses` that it is false.
 #[derive(Clone, Copy, PartialEq, Eq, Debug)]
 pub struct Literals {
     pub trues: u64,
@@ -50,7 +52,8 @@ impl Literals {
         }
     }
 
-    /// This set and the literal that `value` says of fact `f`: positive true, negative false. For 0, and for a fact from 64 on, this set.
+    /// This set and the literal that `value` says of fact `f`: positive true, negative false. For 0, and for a fact from
+    /// 64 on, this set.
     pub fn with(self, f: usize, value: i8) -> Literals
         ensures value { λ r. ⌜ ((g : ℕ) (v : Bool) → has r g v ≡ (has self g v || ((ltb f 64 && eqb g f) && says «value» v))) ⌝ }
     {

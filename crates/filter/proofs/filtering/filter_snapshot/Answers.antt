@@ -15,8 +15,8 @@ returns c =
     let s = c .narrow .last .part in
     let small : p .round ≤ 30 = search needs in
     record {
-      value = filters m lw p q r s (c .all-actions .result) (c .all-literals .result) (c .below-due .result) (c .narrow .result)
-          small (c .restrict-steps .ensures .value) (c .restrict-levels .ensures .value) (c .all-actions .ensures .value) (c .all-literals .ensures .value) (c .below-due .ensures .value) (c .narrow .ensures .value);
-      plans = plans-stay m lw p q r s (c .all-actions .result) (c .all-literals .result) (c .below-due .result) (c .narrow .result)
-          small (c .restrict-steps .ensures .value) (c .restrict-levels .ensures .value) (c .all-actions .ensures .value) (c .all-literals .ensures .value) (c .below-due .ensures .value) (c .narrow .ensures .value);
+      value = filters m lw p q r s (c .all-actions .result) (c .all-literals .result) (c .below-every .result) (c .narrow .result)
+          small (c .restrict-steps .ensures .value) (c .restrict-levels .ensures .value) (c .all-actions .ensures .value) (c .all-literals .ensures .value) (c .below-every .ensures .value) (c .narrow .ensures .value);
+      plans = plans-stay m lw p q r s (c .all-actions .result) (c .all-literals .result) (c .below-every .result) (c .narrow .result)
+          small (c .restrict-steps .ensures .value) (c .restrict-levels .ensures .value) (c .all-actions .ensures .value) (c .all-literals .ensures .value) (c .below-every .ensures .value) (c .narrow .ensures .value);
     }

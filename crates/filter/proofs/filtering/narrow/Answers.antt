@@ -1,4 +1,4 @@
-use mathlib.Core.Path.{_≡_, subst}
+use mathlib.Core.Path.{subst}
 use mathlib.Core.Bool.{Bool}
 use Rattle.tasks.specs.Bundle.{meaning}
 use Rattle.filter.specs.Loops.{Settling}

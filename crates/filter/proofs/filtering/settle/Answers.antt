@@ -1,10 +1,8 @@
-use mathlib.Core.Path.{_≡_, refl}
+use mathlib.Core.Path.{refl}
 use Prim.Native.Nat.{_<_, _^_}
 use borrow.Author.Needs.{needs}
-use native.Mathlib.Omega.{arith}
 use Rattle.std.proofs.shelf.Tests.{both-ways}
 use Rattle.tasks.specs.Bundle.{meaning}
-use Rattle.filter.specs.Turns.{Progressed}
 use Rattle.filter.proofs.Settling.{begun, firm-first, gone-on, falls-on, lost, whole, unwhole, either}
 use Rattle.filter.proofs.filtering.settle.Needs as need
 

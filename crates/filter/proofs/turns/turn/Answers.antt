@@ -1,12 +1,11 @@
 use mathlib.Core.Path.{_≡_, refl, sym, ap, _∙_, subst}
 use Prim.Native.Nat.{ℕ, suc}
 use Rattle.std.proofs.shelf.Tests.{both-ways}
-use Rattle.sets.specs.declared.literals.Literals.{Literals}
 use Rattle.tasks.specs.Bundle.{meaning}
 use Rattle.filter.specs.declared.stage.StageMasks.{StageMasks}
 use Rattle.filter.specs.Parts.{level-at}
 use Rattle.filter.specs.Revising.{Revised}
-use Rattle.filter.specs.Turns.{stage-at, Touched, Under}
+use Rattle.filter.specs.Turns.{stage-at, Touched}
 use Rattle.filter.proofs.Placing.{unequal}
 use Rattle.filter.proofs.Turning.{turned-none, turned-some}
 use Rattle.filter.proofs.turns.turn.Needs as need

@@ -1,5 +1,3 @@
-use mathlib.Core.Path.{_≡_}
-use mathlib.Core.Bool.{true, false}
 use Rattle.sets.specs.Sets.{has, holds}
 use Rattle.sets.proofs.literals.Literals.contains.Needs as need
 
