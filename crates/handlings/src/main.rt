@@ -4,6 +4,7 @@ use planner::told::Told;
 use std::env;
 use std::error::AnyError;
 use std::fs::File;
+use std::io;
 use std::io::Read;
 use std::io::Write;
 
@@ -12,15 +13,9 @@ const MOST: u64 = 32_769;
 
 fn main(rt: LibcRuntime) -> Result<(), AnyError> {
     let mut sheet = Vec::new(rt.alloc());
-    let mut args = env::args(&rt)?;
-    let _ = args.next();
-    match args.next() {
-        None => {
-            let _ = rt.stdin().take(MOST).read_to_end(&mut sheet)?;
-        }
-        Some(path) => {
-            let _ = File::open(&rt, path.as_str())?.take(MOST).read_to_end(&mut sheet)?;
-        }
+    if let Err(error) = read_sheet(rt, &mut sheet) {
+        eprintln!(rt, "handlings: {error}")?;
+        return Err(error.into());
     }
     let mut text = [0; 800];
     match plan_text(sheet.as_slice(), &mut text) {
@@ -29,7 +24,22 @@ fn main(rt: LibcRuntime) -> Result<(), AnyError> {
             rt.stdout().write_all(&text[0..n])?;
             return Err("the sheet is refused".into());
         }
-        Err(_) => return Err("the sheet has no plan to report".into()),
+        Err(_) => return Err("the sheet has no report".into()),
+    }
+    Ok(())
+}
+
+/// Reads the sheet: the file that is named, or standard input where none is.
+fn read_sheet(rt: LibcRuntime, sheet: &mut Vec<u8>) -> io::Result<()> {
+    let mut args = env::args(&rt)?;
+    let _ = args.next();
+    match args.next() {
+        None => {
+            let _ = rt.stdin().take(MOST).read_to_end(sheet)?;
+        }
+        Some(path) => {
+            let _ = File::open(&rt, path.as_str())?.take(MOST).read_to_end(sheet)?;
+        }
     }
     Ok(())
 }
