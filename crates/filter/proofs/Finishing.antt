@@ -18,12 +18,13 @@ use Rattle.filter.specs.Structures.{Structure, Below, trimmed, bare}
 use Rattle.filter.specs.Filtering.{Consistent, Filtered}
 use Rattle.filter.specs.Filtering.Filtered.{kept, wiped}
 use Rattle.filter.specs.Parts.{structure}
+use Rattle.filter.specs.Plans.{trace}
 use Rattle.filter.specs.Stages.{marked}
 use Rattle.filter.specs.Loops.{Settling, Steps-restricted, Levels-restricted}
 use Rattle.filter.specs.Calls.{stands, Filters, Filters-from, Loses-no-plan}
 use Rattle.filter.proofs.Masking.{firm-raw, consistent-structure, below-structure, structure-below, below-raw, factual, trimmed-below, trimmed-twice, filtered-trimmed, restricted-past, emptied, trims}
 use Rattle.filter.proofs.Settling.{past-on}
-use Rattle.filter.proofs.Tracing.{loses-none}
+use Rattle.filter.proofs.Tracing.{loses-none, trace-consistent, trace-trimmed}
 
 pub from-kept : (m : Meaning) (p q : Part) (due : StageSet) → p .round ≤ 30 → Settling m p due true q → Filters-from due m p (Ok Kept) q
 from-kept m p q due le (n, settled) =
@@ -66,3 +67,10 @@ module _ (m : Meaning) (lw : Lawful m) (p q r s : Part) (actions : ActionSet) (v
 
   pub plans-stay : Loses-no-plan m p (Ok o) s
   plans-stay _ acts sol s′ = let k = loses-none m lw (structure p) (structure s) (stands o) filtered acts sol s′ in (ap (λ (x : Outcome). Ok x) (stands-kept o (k .0)), k .1)
+
+-- a plan is a consistent structure, and of these none is lost
+pub plans-stay-from : (m : Meaning) → Lawful m → (p q : Part) (due : StageSet) (o : Outcome) → Filters-from due m p (Ok o) q → Loses-no-plan m p (Ok o) q
+plans-stay-from m lw p q due Kept done _ acts sol s =
+    (refl, done .1 .1 (trace m acts) (trace-consistent m lw acts sol) (trace-trimmed m lw acts sol (structure p) s))
+plans-stay-from m lw p q due Wiped done _ acts sol s =
+    absurd (done .1 .1 (trace m acts) (trace-consistent m lw acts sol) (trace-trimmed m lw acts sol (structure p) s))

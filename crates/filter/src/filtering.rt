@@ -44,6 +44,7 @@ pub fn filter_snapshot(snapshot: &Snapshot, part: &mut Part) -> Result<Outcome, 
 /// The same for a part that is consistent but at the stages of `due`, and has only numbers of the task.
 pub fn filter_from(snapshot: &Snapshot, part: &mut Part, due: StageSet) -> Result<Outcome, Refusal>
     ensures value { λ r. ⌜ Filters-from due (masked (now (snapshot .entry))) (now (part .entry)) r (now (part .exit)) ⌝ }
+    ensures plans { λ r. ⌜ Loses-no-plan (masked (now (snapshot .entry))) (now (part .entry)) r (now (part .exit)) ⌝ }
 {
     check_round(part)?;
     Ok(narrow(snapshot, part, due))
