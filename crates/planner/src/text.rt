@@ -10,7 +10,7 @@ use crate::judge::judge;
 use crate::told::Told;
 use sheet::fault::Fault;
 use sheet::report::report;
-use sheet::report::write_refusal;
+use sheet::refused::write_refusal;
 
 /// Writes what is printed of a sheet to the front of the buffer: `refused N line L` where the sheet is refused; else
 /// `found N` and the names of a shortest plan's actions, one a line, or `none K` where no plan of up to K actions, the

@@ -1,0 +1,14 @@
+pub mod Refusals
+pub mod Machines
+pub mod Steps
+pub mod Calls
+pub mod Ceiling
+pub mod Runs
+pub mod Depths
+pub mod Parts
+pub mod Entries
+pub mod Fates
+pub mod Stored
+pub mod Applied
+pub mod Stepped
+pub mod Skips
