@@ -18,7 +18,7 @@ fn main(rt: LibcRuntime) -> Result<(), AnyError> {
         return Err(error.into());
     }
     let mut text = [0; 800];
-    match plan_text(sheet.as_slice(), &mut text) {
+    match plan_text(rt.alloc(), sheet.as_slice(), &mut text) {
         Ok(Told::Report(n)) => rt.stdout().write_all(&text[0..n])?,
         Ok(Told::Refusal(n)) => {
             rt.stdout().write_all(&text[0..n])?;

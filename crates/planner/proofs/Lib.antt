@@ -1,2 +1,4 @@
 pub mod Spreading
 pub mod Planning
+pub mod Holding
+pub mod Judging

@@ -5,14 +5,14 @@ use Prim.Native.Nat.{ℕ}
 use Rattle.std.specs.declared.result.Result.{Result}
 use Rattle.std.specs.declared.result.Result.the-variants.{Ok, Err}
 use Rattle.tasks.specs.Meaning.{Meaning}
-use Rattle.sheet.specs.declared.fault.Fault.{Fault}
 use Rattle.sheet.specs.Actions.{checked}
 use Rattle.sheet.specs.Sheet.{Read}
 use Rattle.planner.specs.declared.told.Told.{Told}
+use Rattle.planner.specs.declared.told.Untold.{Untold}
 use Rattle.planner.specs.declared.told.Told.the-variants as told
 use Rattle.planner.specs.Planned.{task-of, Reported, Planned}
 
-pub planned : (bs before after : List ℕ) (x : Read) → checked bs ≡ Ok x → (m : Meaning) (bound : ℕ) → bound ≡ x .counts .bound → m ≡ task-of x → (r : Result Told Fault)
+pub planned : (bs before after : List ℕ) (x : Read) → checked bs ≡ Ok x → (m : Meaning) (bound : ℕ) → bound ≡ x .counts .bound → m ≡ task-of x → (r : Result Told Untold)
     → Reported bs m bound before after r → Planned bs before after r
 planned bs before after x e m bound b t (Ok (told.Report n)) h = (
   x,

@@ -11,6 +11,7 @@ use crate::entry::Entry;
 use crate::stage::Stage;
 
 /// A search for a shortest plan. Its holders call `open`, `advance`, `lift`, `verdict` and `plan` on it.
+#[derive(Drop)]
 pub struct Search {
     stage: Stage,
     bound: u8,
