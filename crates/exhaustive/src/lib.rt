@@ -1,5 +1,6 @@
 //! Trying every sequence of actions, the shorter ones first: the yardstick that a planner is compared with. It is slow, and
 //! what it answers is beyond doubt.
+#![tactic(auto)]
 
 pub mod answer;
 mod extend;

@@ -1,6 +1,7 @@
 //! The filter of a planner. `part` has what is filtered, `stages` and `outcome` what goes with it, `filtering` the calls,
 //! `theorems` what
 //! holds of them for every task. Below them `turns` revises one stage at a time, and `stage` has the rules as masks.
+#![tactic(auto)]
 
 pub mod filtering;
 mod limits;

@@ -1,4 +1,6 @@
 //! Filters parts of the largest size, and prints how many were kept and how many wiped.
+#![tactic(auto)]
+
 use filter::{Outcome, Part, filter_snapshot};
 use sets::{ActionSet, Literals};
 use tasks::masks::Masks;

@@ -1,4 +1,6 @@
 //! Reads a job sheet from standard input, or from the file that is its only argument, and prints a shortest plan.
+#![tactic(auto)]
+
 use anyhow::anyhow;
 use planner::plan_text;
 use planner::told::Told;

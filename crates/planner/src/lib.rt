@@ -1,4 +1,5 @@
 //! From the bytes of a job sheet to the text that is printed of it.
+#![tactic(auto)]
 
 mod job;
 mod judge;

@@ -1,4 +1,6 @@
 //! The search for a shortest plan.
+#![tactic(auto)]
+
 pub mod answer;
 mod apply;
 mod ask;

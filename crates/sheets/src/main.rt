@@ -2,6 +2,8 @@
 //!
 //! A sheet begins after a line `% TITLE` and ends at the next `%`. Printed are the title and either the refusal or the counts,
 //! the tables (`+` true, `-` false, `.` neither; a row to an action) and a report that names all actions.
+#![tactic(auto)]
+
 use search::verdict::Verdict;
 use sheet::counts::Counts;
 use sheet::read::read;

@@ -1,4 +1,6 @@
 //! Prints what making a task answers at the edge of each limit, and what piles of layers answer.
+#![tactic(auto)]
+
 use std::io;
 use tasks::TableTask;
 use tasks::ban::Ban;
