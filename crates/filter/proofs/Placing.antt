@@ -1,8 +1,9 @@
 -- A part with one stage put in place: what holds of the new stage and of the old rest holds of every step and level, and
 -- so does what they weigh.
-use Rattle.std.proofs.Common.{◌≡◌, ℕ, suc, ◌+◌, ◌<◌, ◌≤◌, Bool, true, false, cond, not, List, get_or, set, Decides, sum_by, sym, refl, ap, ◌∙◌, subst, ap₂, inl, inr, arith, length-set, get_or-set_other, get_or-set_same}
+use Rattle.std.proofs.Common.{◌≡◌, ℕ, suc, ◌+◌, ◌<◌, ◌≤◌, Bool, true, false, not, ◌&&◌, List, get_or, set, sum_by, sym, refl, ap, ◌∙◌, subst, ap₂, inl, inr, arith, length-set, get_or-set_other, get_or-set_same}
+use Rattle.std.proofs.Math.Dec.{eqb}
 use Rattle.std.proofs.lemmas.List.Sums.{sum_by-set}
-use Rattle.std.proofs.lemmas.Bool.{cases_eq, cases_lt, false≢true}
+use Rattle.std.proofs.lemmas.Bool.{cases_eq, cases_lt, eqb-true, eq-eqb, false≢true}
 use Rattle.sets.specs.declared.actions.ActionSet.{ActionSet}
 use Rattle.sets.specs.declared.literals.Literals.{Literals}
 use Rattle.filter.specs.declared.part.Part.{Part}
@@ -86,13 +87,12 @@ lighter v w a b ne =
 
 -- what the derived `!=` of literals says
 abbrev pub Differs : Bool → Literals → Literals → Type 0
-Differs r v w = (x : Bool)
-    × cond x (Decides true (v.trues ≡ w.trues) × Decides true (v.falses ≡ w.falses)) ((Decides false (v.trues ≡ w.trues) → ⊥) → (Decides false (v.falses ≡ w.falses) → ⊥) → ⊥)
-    × (r ≡ not x)
+Differs r v w = r ≡ not (eqb v.trues w.trues && eqb v.falses w.falses)
 
 pub unequal : (r : Bool) (v w : Literals) → Differs r v w → (r ≡ false → v ≡ w) × (r ≡ true → v ≡ w → ⊥)
-unequal r v w (true, e, k) = (λ _. same_literals v w (e.0.0 refl) (e.1.0 refl), λ t. absurd (false≢true (sym k ∙ t)))
-unequal r v w (false, e, k) = (
-  λ t. absurd (false≢true (sym t ∙ k)),
-  λ _ q. e (λ d. false≢true (d.1 (ap (λ (x : Literals). x.trues) q))) (λ d. false≢true (d.1 (ap (λ (x : Literals). x.falses) q))),
-)
+unequal r v w = go (eqb v.trues w.trues) (eqb v.falses w.falses) refl refl
+  where
+    go : (a b : Bool) → eqb v.trues w.trues ≡ a → eqb v.falses w.falses ≡ b → r ≡ not (a && b) → (r ≡ false → v ≡ w) × (r ≡ true → v ≡ w → ⊥)
+    go true true p q k = (λ _. same_literals v w (eqb-true _ _ p) (eqb-true _ _ q), λ t. absurd (false≢true (sym k ∙ t)))
+    go true false p q k = (λ f. absurd (false≢true (sym f ∙ k)), λ _ s. false≢true (sym q ∙ eq-eqb _ _ (ap (λ (x : Literals). x.falses) s)))
+    go false b p q k = (λ f. absurd (false≢true (sym f ∙ k)), λ _ s. false≢true (sym p ∙ eq-eqb _ _ (ap (λ (x : Literals). x.trues) s)))

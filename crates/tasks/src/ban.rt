@@ -3,6 +3,7 @@ ghost use Rattle.std.specs.Prelude.{◌≡◌, ℕ, ◌≤◌, not, ◌&&◌, Ma
 ghost use Rattle.sets.specs.Sets.{among};
 ghost use Rattle.tasks.specs.Banned.{Banned};
 ghost use Rattle.tasks.specs.Bans.{AllBelow, listed};
+ghost use Rattle.tasks.specs.Layers.{banned_lawful};
 
 use crate::refusal::Refusal;
 use crate::row::Row;
@@ -43,6 +44,8 @@ impl<T: Task> Task for Ban<T> {
     ghost start = { λ b. T.Task.start b.below };
 
     ghost goal = { λ b. T.Task.goal b.below };
+
+    ghost lawful = { λ b. banned_lawful (among b.banned) _ (T.Task.lawful b.below) };
 
     fn facts(&self) -> usize {
         self.below.facts()

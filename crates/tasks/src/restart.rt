@@ -1,7 +1,9 @@
 //! A task that starts from what was seen.
 ghost use Rattle.std.specs.Prelude.{◌≡◌, ℕ, ◌+◌, ◌≤◌, Bool, true, MatchOption, unsigned_abs};
+ghost use Rattle.sets.specs.Bits.{bit};
 ghost use Rattle.sets.specs.Sets.{has};
 ghost use Rattle.sets.specs.Signs.{says};
+ghost use Rattle.tasks.specs.Layers.{restarted_lawful};
 ghost use Rattle.tasks.specs.Restarted.{Restarted};
 ghost use Rattle.tasks.specs.Restarts.{Within, Apart, Fresh, Joined, seen};
 ghost use Rattle.tasks.specs.Rows.{starts};
@@ -51,6 +53,8 @@ impl<T: Task> Task for Restart<T> {
     ghost start = { λ t. starts (T.Task.facts t.below) t.truths };
 
     ghost goal = { λ t. T.Task.goal t.below };
+
+    ghost lawful = { λ t. restarted_lawful (bit t.truths) _ (T.Task.lawful t.below) };
 
     fn facts(&self) -> usize {
         self.below.facts()

@@ -8,6 +8,6 @@ pub returns : goal.returns
 returns g c = record {
   value = λ f v.
       let law = g.met.T.Task.lawful c.args.task.now in
-      rw (c.without.ensures.value f v, c.goals.ensures f v, c.of-state.ensures.value f v)
+      rw (c.without.ensures.value f v, c.goals.ensures f v, c.of_state.ensures.value f v)
       (other_value (g.T.Task.goal c.args.task.now f) v (bit c.args.state f) _ (λ past. law.goal_past f (let high = ltb-false f 64 past in omega (arith, law.facts_most))));
 }

@@ -12,8 +12,8 @@ use Rattle.exhaustive.proofs.Rests.{is_nil, first_set, rest_same, length_rest}
 use Rattle.exhaustive.proofs.extend.+extend.Goals.{then-applies+in-Missing, else-applies}
 use Rattle.exhaustive.proofs.extend.+extend.Goals as goal
 
-pub returns-then-is-empty : goal.returns-then-is-empty
-returns-then-is-empty t c =
+pub returns-then-is_empty : goal.returns-then-is_empty
+returns-then-is_empty t c =
     let n : length c.args.plan.now ≡ 0 = search rules in
     record { value = subst (λ (l : List ℕ). TriedAll (masked c.args.task.now) c.args.state c.args.budget.now c.end.new.budget l l c.end.result) (sym (is_nil c.args.plan.now n)) c.end.ensures.value }
 

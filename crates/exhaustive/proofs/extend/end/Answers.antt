@@ -10,4 +10,4 @@ returns-then-budget-eq0 c = record { value = (omega arith, refl) }
 
 pub returns : goal.returns
 unfolding sequences
-returns c = record { value = (none_empty _ _ (not_from_Decides _ c.goals-hold.ensures.value c.if-goals-hold.false), omega arith, refl) }
+returns c = record { value = (none_empty _ _ (not_from_Decides _ c.goals_hold.ensures.value c.if-goals_hold.false), omega arith, refl) }

@@ -6,7 +6,7 @@ use Rattle.exhaustive.specs.Sequences.{sequences}
 use Rattle.exhaustive.specs.Tried.{NoneReaches}
 use Rattle.exhaustive.proofs.Lengths.{Covered, none_covered, one_more, is_shortest, not_solvable, is_paid, is_spent, same_number, none_moved}
 use Rattle.exhaustive.proofs.Rests.{front_written, back_same, front_same}
-use Rattle.exhaustive.proofs.plan.by_length.Goals.{In-Missing, at·loop-n-again, at·returns-in-Missing}
+use Rattle.exhaustive.proofs.plan.by_length.Goals.{In-Missing}
 use Rattle.exhaustive.proofs.plan.by_length.Goals as goal
 
 pub returns-in-Found : goal.returns-in-Found
@@ -18,7 +18,7 @@ returns-in-Found c =
     let within : n ≤ length p = omega (arith, c.loop-n-test.true, c.loop-n.auto.plan) in
     let few : n - 0 ≤ length p = omega arith in
     let long : length q ≡ n = omega (arith, c.extend.auto.plan, length-take-le (n - 0) p few) in
-    let reaches = subst (λ (s : ℕ). Reaches m s q) c.start_state.ensures.value c.in-Found.ensures.value in
+    let reaches = subst (λ (s : ℕ). Reaches m s q) c.start-state.ensures.value c.in-Found.ensures.value in
     record {
       value = (
         c.loop-n-test.true,
@@ -35,7 +35,7 @@ returns-in-Spent c =
     let told = c.in-Spent.ensures.value in
     let few : n - 0 ≤ length p = omega (arith, c.loop-n-test.true, c.loop-n.auto.plan) in
     let same : n - 0 ≡ n = omega arith in
-    let number = same_number m c.start_state.result (start_state m) (length (take (n - 0) p)) n c.start_state.ensures.value (length-take-le (n - 0) p few ∙ same) in
+    let number = same_number m c.start-state.result (start_state m) (length (take (n - 0) p)) n c.start-state.ensures.value (length-take-le (n - 0) p few ∙ same) in
     record {
       value = (
         is_spent m c.args.budget c.loop-n.left n (length c.args.plan.now) (subst (λ (k : ℕ). c.loop-n.left < k) number told.0) c.loop-n-test.true c.loop-n.invariant.0,
@@ -53,14 +53,14 @@ missing c =
     let few : n - 0 ≤ length p = omega (arith, c.loop-n-test.true, c.loop-n.auto.plan) in
     let same : n - 0 ≡ n = omega arith in
     let room = length-take-le (n - 0) p few ∙ same in
-    let number = same_number m c.start_state.result (start_state m) (length (take (n - 0) p)) n c.start_state.ensures.value room in (
+    let number = same_number m c.start-state.result (start_state m) (length (take (n - 0) p)) n c.start-state.ensures.value room in (
       one_more m c.args.budget c.loop-n.left c.extend.new.budget n (subst (λ (k : ℕ). c.loop-n.left ≡ c.extend.new.budget + k) number told.1)
-          (none_moved m c.start_state.result (start_state m) (length (take (n - 0) p)) n c.start_state.ensures.value room told.0) c.loop-n.invariant.0,
+          (none_moved m c.start-state.result (start_state m) (length (take (n - 0) p)) n c.start-state.ensures.value room told.0) c.loop-n.invariant.0,
       front_same p c.extend.new.plan (n - 0) told.2 ∙ c.loop-n.invariant.1,
     )
 
 pub loop-n-preserved : goal.loop-n-preserved
-loop-n-preserved c = missing (at·loop-n-again c).In-Missing
+loop-n-preserved c = missing (goal.at.loop-n-preserved c).In-Missing
 
 pub returns : goal.returns
 returns c =
@@ -71,6 +71,6 @@ returns c =
 pub returns-in-Missing : goal.returns-in-Missing
 returns-in-Missing c =
     let m = masked c.args.task.now in
-    let told = missing (at·returns-in-Missing c).In-Missing in
+    let told = missing (goal.at.returns-in-Missing c).In-Missing in
     let past : length c.args.plan.now < c.loop-n.n + 1 = omega arith in
     record { value = (not_solvable m _ _ _ _ past told.0, is_paid m _ _ _ _ past told.0, told.1) }

@@ -5,4 +5,4 @@ use Rattle.exhaustive.proofs.plan.shortest_plan.Goals as goal
 
 pub returns : goal.returns
 returns g c =
-    record { value = subst (λ (m : Meaning). Answered m c.args.budget c.args.plan.now c.by-length.new.plan c.by-length.result) c.of-snapshot.ensures.value c.by-length.ensures.value }
+    record { value = subst (λ (m : Meaning). Answered m c.args.budget c.args.plan.now c.by_length.new.plan c.by_length.result) c.of-snapshot.ensures.value c.by_length.ensures.value }

@@ -18,7 +18,7 @@ returns g c =
     let m = meaning g.T.Task c.args.task.now in
     let p = c.args.part.now in
     record {
-      value = from_wiped m p c.settle.new.part c.restrict-steps.new.part c.restrict-levels.new.part c.args.due c.none.result c.none-2.result c.requires
+      value = from_wiped m p c.settle.new.part c.restrict_steps.new.part c.restrict_levels.new.part c.args.due c.none.result c.none-2.result c.requires
           (subst (λ (b : Bool). Settling m p c.args.due b c.settle.new.part) c.if-settle.false c.settle.ensures.value)
-          c.restrict-steps.ensures.value c.restrict-levels.ensures.value c.none.ensures.value c.none-2.ensures.value;
+          c.restrict_steps.ensures.value c.restrict_levels.ensures.value c.none.ensures.value c.none-2.ensures.value;
     }

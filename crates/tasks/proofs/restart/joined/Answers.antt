@@ -6,17 +6,17 @@ use Rattle.sets.specs.Signs.{says}
 use Rattle.tasks.proofs.Seeing.{abs_opposite, either_sign, joined_with}
 use Rattle.tasks.proofs.restart.joined.Goals as goal
 
-pub returns-then-is-in : goal.returns-then-is-in
-returns-then-is-in c fresh =
+pub returns-then-is_in : goal.returns-then-is_in
+returns-then-is_in c fresh =
     let z = c.in-Some.literal.number in
     let fits : SFits w8 c.args.number = search rules in
     let is : nat_abs z ≡ nat_abs c.args.number = ap nat_abs (c.in-Some.ensures ∙ to_z-of_z w8 c.args.number fits) in
     let f = c.fact.result in
     let at : nat_abs z ≡ f + 1 = omega (arith, c.fact.ensures) in
-    both_ways (has c.args.set f (says z true)) (fresh.2 f (says z true) (sym is ∙ at)) (sym (c.if-is-in.ensures f at))
+    both_ways (has c.args.set f (says z true)) (fresh.2 f (says z true) (sym is ∙ at)) (sym (c.if-is_in.ensures f at))
 
-pub returns-then-is-in-2 : goal.returns-then-is-in-2
-returns-then-is-in-2 c fresh =
+pub returns-then-is_in-2 : goal.returns-then-is_in-2
+returns-then-is_in-2 c fresh =
     let z = c.in-Some.literal.number in
     let o = c.opposite.result.number in
     let fits : SFits w8 c.args.number = search rules in
@@ -24,7 +24,7 @@ returns-then-is-in-2 c fresh =
     let same : nat_abs o ≡ nat_abs z = ap nat_abs c.opposite.ensures ∙ abs_opposite z in
     let f = c.fact.result in
     let at : nat_abs z ≡ f + 1 = omega (arith, c.fact.ensures) in
-    both_ways (has c.args.set f (says o true)) (fresh.2 f (says o true) (sym is ∙ at)) (sym (c.if-is-in-2.ensures f (same ∙ at)))
+    both_ways (has c.args.set f (says o true)) (fresh.2 f (says o true) (sym is ∙ at)) (sym (c.if-is_in-2.ensures f (same ∙ at)))
 
 pub returns : goal.returns
 returns c =
@@ -42,8 +42,8 @@ returns c =
         omega (arith, c.in-Some.literal.some, is),
         few,
         λ g v e. elim (either_sign z c.in-Some.literal.some v) [
-          | inl s ↦ ap (has c.args.set g) s ∙ sym (c.if-is-in.ensures g (is ∙ e))
-          | inr s ↦ ap (has c.args.set g) (s ∙ ap (λ x. says x true) (sym c.opposite.ensures)) ∙ sym (c.if-is-in-2.ensures g (same ∙ is ∙ e))
+          | inl s ↦ ap (has c.args.set g) s ∙ sym (c.if-is_in.ensures g (is ∙ e))
+          | inr s ↦ ap (has c.args.set g) (s ∙ ap (λ x. says x true) (sym c.opposite.ensures)) ∙ sym (c.if-is_in-2.ensures g (same ∙ is ∙ e))
         ],
       ),
       joined_with c.args.set c.with.result n _ f (to_z-of_z w8 n fits) at small c.with.ensures.value,

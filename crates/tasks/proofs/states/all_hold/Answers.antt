@@ -12,13 +12,13 @@ returns c =
     let s = c.args.state in
     let ts : set.trues < 2 ^ 64 = search rules in
     let fs : set.falses < 2 ^ 64 = search rules in
-    let shown : (f : ℕ) (v : Bool) → has c.of-state.result f v ≡ (ltb f 64 && is v (bit s f)) = c.of-state.ensures.value in (
+    let shown : (f : ℕ) (v : Bool) → has c.of_state.result f v ≡ (ltb f 64 && is v (bit s f)) = c.of_state.ensures.value in (
       λ e f v there.
           let l = has_below set ts fs f v there in
           is_value v (bit s f) (sym (ap (λ b. b && is v (bit s f)) (lt-ltb f 64 l)) ∙ sym (shown f v)
-          ∙ left_none (has set f v) (has c.of-state.result f v) there (sym (c.without.ensures.value f v) ∙ c.is-empty.ensures.value.0 e f v)),
-      λ all. c.is-empty.ensures.value.1 (λ f v.
-          c.without.ensures.value f v ∙ none_left (has set f v) (has c.of-state.result f v) (λ there.
+          ∙ left_none (has set f v) (has c.of_state.result f v) there (sym (c.without.ensures.value f v) ∙ c.is_empty.ensures.value.0 e f v)),
+      λ all. c.is_empty.ensures.value.1 (λ f v.
+          c.without.ensures.value f v ∙ none_left (has set f v) (has c.of_state.result f v) (λ there.
           let l = has_below set ts fs f v there in
           shown f v ∙ ap (λ b. b && is v (bit s f)) (lt-ltb f 64 l) ∙ value_is v (bit s f) (all f v there))),
     )

@@ -4,8 +4,8 @@ use Rattle.filter.specs.Stages.{marked}
 use Rattle.sets.proofs.Words.{below_bits, full_bits}
 use Rattle.filter.proofs.stages.StageSet.below.Goals as goal
 
-pub overflow-sub-result : goal.overflow-sub-result
-overflow-sub-result c = rw (one_shl c.args.n 32 (omega arith)) (pow_pos c.args.n)
+pub overflow_sub-result : goal.overflow_sub-result
+overflow_sub-result c = rw (one_shl c.args.n 32 (omega arith)) (pow_pos c.args.n)
 
 pub returns-then-n-ge32 : goal.returns-then-n-ge32
 unfolding marked

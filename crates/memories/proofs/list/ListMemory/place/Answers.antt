@@ -7,7 +7,7 @@ use Rattle.memories.proofs.list.ListMemory.place.Goals as goal
 pub loop-upto-init : goal.loop-upto-init
 loop-upto-init c =
     let m = c.args.self.now in
-    subst (λ (h : ℕ). OnChain (state_at m.rows) m.count c.args.state (get_or m.heads h 0)) (sym c.slot-of-slot.ensures.value) (from_head m.rows m.count m.heads m.links (fits m) (chained m) c.args.state)
+    subst (λ (h : ℕ). OnChain (state_at m.rows) m.count c.args.state (get_or m.heads h 0)) (sym c.slot_of-slot.ensures.value) (from_head m.rows m.count m.heads m.links (fits m) (chained m) c.args.state)
 
 pub loop-upto-preserved : goal.loop-upto-preserved
 unfolding state_at

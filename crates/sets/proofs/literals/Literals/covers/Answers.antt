@@ -11,7 +11,7 @@ returns c =
     λ f v. let a = c.without.ensures.value f v in let b = c.opposites.ensures.value f v in let d = c.without-2.ensures.value f v in cc in
     record {
       value = (
-        λ e f v m. gap (has all f v) (has s f v) (has s f (not v)) (sym (missing f v) ∙ c.is-empty.ensures.value.0 e f v) m,
-        λ h. c.is-empty.ensures.value.1 (λ f v. missing f v ∙ no_gap (has all f v) (has s f v) (has s f (not v)) (h f v)),
+        λ e f v m. gap (has all f v) (has s f v) (has s f (not v)) (sym (missing f v) ∙ c.is_empty.ensures.value.0 e f v) m,
+        λ h. c.is_empty.ensures.value.1 (λ f v. missing f v ∙ no_gap (has all f v) (has s f v) (has s f (not v)) (h f v)),
       );
     }

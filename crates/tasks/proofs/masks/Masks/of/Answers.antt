@@ -17,8 +17,8 @@ assemble-requires g c =
     let m = meaning g.T.Task c.args.task.now in
     let law = g.met.T.Task.lawful c.args.task.now in (
       m,
-      described m law c.facts.result c.actions.result c.usable-actions.result c.rows-of-rows.result c.start_state.result c.goals.result
-          c.facts.ensures c.actions.ensures c.usable-actions.ensures c.rows-of-rows.ensures.long c.rows-of-rows.ensures.value
+      described m law c.facts.result c.actions.result c.usable_actions.result c.rows_of-rows.result c.start_state.result c.goals.result
+          c.facts.ensures c.actions.ensures c.usable_actions.ensures c.rows_of-rows.ensures.long c.rows_of-rows.ensures.value
           (starts_so m law c.start_state.result c.start_state.ensures) c.goals.ensures,
     )
 
@@ -27,7 +27,7 @@ returns g c =
     let m = meaning g.T.Task c.args.task.now in
     let law = g.met.T.Task.lawful c.args.task.now in
     record {
-      value = c.assemble.ensures m (described m law c.facts.result c.actions.result c.usable-actions.result c.rows-of-rows.result c.start_state.result c.goals.result
-          c.facts.ensures c.actions.ensures c.usable-actions.ensures c.rows-of-rows.ensures.long c.rows-of-rows.ensures.value
+      value = c.assemble.ensures m (described m law c.facts.result c.actions.result c.usable_actions.result c.rows_of-rows.result c.start_state.result c.goals.result
+          c.facts.ensures c.actions.ensures c.usable_actions.ensures c.rows_of-rows.ensures.long c.rows_of-rows.ensures.value
           (starts_so m law c.start_state.result c.start_state.ensures) c.goals.ensures);
     }

@@ -27,13 +27,13 @@ pub assemble-requires : goal.assemble-requires
 assemble-requires c = (
   table_task c.args.facts c.args.actions c.args.needs.now c.args.makes.now c.args.start.now c.args.goal.now,
   tables_described c.args.facts c.args.actions c.args.needs.now c.args.makes.now c.args.start.now c.args.goal.now c.requires.few c.requires.ranges
-      c.below-usable.result c.read-rows-rows.result c.read-starts.result c.read-goals.result c.below-usable.ensures.value
-      c.read-rows-rows.ensures.long c.read-rows-rows.ensures.value c.read-starts.ensures c.read-goals.ensures,
+      c.below-usable.result c.read_rows-rows.result c.read-starts.result c.read-goals.result c.below-usable.ensures.value
+      c.read_rows-rows.ensures.long c.read_rows-rows.ensures.value c.read-starts.ensures c.read-goals.ensures,
 )
 
 pub returns : goal.returns
 returns c =
     c.assemble.ensures (table_task c.args.facts c.args.actions c.args.needs.now c.args.makes.now c.args.start.now c.args.goal.now)
     (tables_described c.args.facts c.args.actions c.args.needs.now c.args.makes.now c.args.start.now c.args.goal.now c.requires.few c.requires.ranges
-    c.below-usable.result c.read-rows-rows.result c.read-starts.result c.read-goals.result c.below-usable.ensures.value
-    c.read-rows-rows.ensures.long c.read-rows-rows.ensures.value c.read-starts.ensures c.read-goals.ensures)
+    c.below-usable.result c.read_rows-rows.result c.read-starts.result c.read-goals.result c.below-usable.ensures.value
+    c.read_rows-rows.ensures.long c.read_rows-rows.ensures.value c.read-starts.ensures c.read-goals.ensures)

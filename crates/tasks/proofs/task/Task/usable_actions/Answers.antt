@@ -13,9 +13,9 @@ loop-a-preserved g c =
     gathered_more (g.Self.Task.usable t) n (among c.loop-a.usable) (among c.if-usable.usable) c.usable.result c.usable.ensures
     (λ a. elim c.if-usable.branch [
       | then-usable w ↦
-          ap (λ s. among s a) w.usable_is ∙ w.with-usable.ensures.value a
+          ap (λ s. among s a) w.usable-is ∙ w.with-usable.ensures.value a
           ∙ put_in (among c.loop-a.usable a) (ltb n 128) (eqb a n) c.usable.result (lt-ltb n 128 small) w.if-usable.true
-      | else-usable w ↦ ap (λ s. among s a) w.usable_is ∙ left_out (among c.loop-a.usable a) (eqb a n) c.usable.result w.if-usable.false
+      | else-usable w ↦ ap (λ s. among s a) w.usable-is ∙ left_out (among c.loop-a.usable a) (eqb a n) c.usable.result w.if-usable.false
     ])
     c.loop-a.invariant
 

@@ -3,7 +3,7 @@ use Rattle.memories.specs.Chains.{state_at}
 use Rattle.memories.proofs.Chaining.{chained_none}
 use Rattle.memories.proofs.list.calls.ListMemoryMemory.empty.Goals as goal
 
-pub invariant-of-self : goal.invariant-of-self
-invariant-of-self c =
+pub invariant_of-self : goal.invariant_of-self
+invariant_of-self c =
     let k = chained_none (state_at c.args.self.now.rows) c.ends-self.result c.args.self.now.links c.ends-self.ensures.value in
-    (omega arith, (c.args.self.now.long, (c.ends-self.ensures.long, (c.args.self.now.tall, (k.newest, (k.filled, (k.headed, (k.older, (k.back, (k.linked, (k.apart, tt)))))))))))
+    record { few = omega arith; long = c.args.self.now.long; wide = c.ends-self.ensures.long; tall = c.args.self.now.tall; newest = k.newest; filled = k.filled; headed = k.headed; older = k.older; back = k.back; linked = k.linked; apart = k.apart }

@@ -4,20 +4,20 @@ use Rattle.memories.specs.Keeping.{keep_raises, keep_stays, keep_adds, keep_full
 use Rattle.memories.proofs.Listing.{chained, fits}
 use Rattle.memories.proofs.list.calls.ListMemoryMemory.keep.Goals as goal
 
-pub invariant-of-self : goal.invariant-of-self
-invariant-of-self c =
+pub invariant_of-self : goal.invariant_of-self
+invariant_of-self c =
     let m = c.args.self.now in
     let k = chained_raised m.rows m.count m.heads m.links c.place-at.result c.args.left (chained m) in
-    (m.few, (simp length-set m.long, (m.wide, (m.tall, (k.newest, (k.filled, (k.headed, (k.older, (k.back, (k.linked, (k.apart, tt)))))))))))
+    record { few = m.few; long = simp length-set m.long; wide = m.wide; tall = m.tall; newest = k.newest; filled = k.filled; headed = k.headed; older = k.older; back = k.back; linked = k.linked; apart = k.apart }
 
-pub invariant-of-self-then-at-lt256 : goal.invariant-of-self-then-at-lt256
-invariant-of-self-then-at-lt256 c =
+pub invariant_of-self-then-at-lt256 : goal.invariant_of-self-then-at-lt256
+invariant_of-self-then-at-lt256 c =
     let m = c.args.self.now in
-    let slot = c.slot-of-slot.ensures.value in
-    let k = chained_added m.rows m.count m.heads m.links (chained m) c.args.state c.args.left c.place-at.result c.slot-of-slot.result (omega arith) slot
+    let slot = c.slot_of-slot.ensures.value in
+    let k = chained_added m.rows m.count m.heads m.links (chained m) c.args.state c.args.left c.place-at.result c.slot_of-slot.result (omega arith) slot
     (missed m.rows m.count m.heads m.links (fits m) (chained m) c.args.state c.place-at.result c.place-at.ensures.value (omega arith))
     (omega arith) (omega arith) (omega arith) in
-    (omega arith, (simp length-set m.long, (simp length-set m.wide, (simp length-set m.tall, (k.newest, (k.filled, (k.headed, (k.older, (k.back, (k.linked, (k.apart, tt)))))))))))
+    record { few = omega arith; long = simp length-set m.long; wide = simp length-set m.wide; tall = simp length-set m.tall; newest = k.newest; filled = k.filled; headed = k.headed; older = k.older; back = k.back; linked = k.linked; apart = k.apart }
 
 pub returns-then-self-at : goal.returns-then-self-at
 returns-then-self-at c = record { after = keep_raises 256 c.args.self.now.rows c.args.self.now.count (omega arith) c.args.state c.args.left c.place-at.result c.place-at.ensures.value (omega arith) (omega arith) }

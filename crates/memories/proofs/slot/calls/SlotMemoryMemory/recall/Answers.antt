@@ -8,6 +8,6 @@ pub returns : goal.returns
 returns c = record {
   value =
       c.recalled.ensures.value
-      ∙ ap (λ (i : ℕ). recalls (taken (get_or c.args.self.now.rows i None)) c.args.state c.args.left) c.slot-of-slot.ensures.value
+      ∙ ap (λ (i : ℕ). recalls (taken (get_or c.args.self.now.rows i None)) c.args.state c.args.left) c.slot_of-slot.ensures.value
       ∙ recalls_slot c.args.self.now.rows c.args.state c.args.left;
 }
