@@ -6,8 +6,8 @@ use Rattle.search.specs.Fates.{StepWithin, effect}
 use Rattle.search.proofs.Applying.{dropped_applied, found_applied, split_applied}
 use Rattle.search.proofs.apply.apply.Goals as goal
 
-pub push-halves-requires : goal.push-halves-requires
-push-halves-requires g c =
+pub push_halves-requires : goal.push_halves-requires
+push_halves-requires g c =
     let m = masked c.args.snapshot.now in
     let rest = entries_of (vec_items c.args.stack.now) in
     record {
@@ -19,10 +19,10 @@ push-halves-requires g c =
 pub returns-in-Dropped : goal.returns-in-Dropped
 returns-in-Dropped g c =
     record {
-      room = c.go-on.ensures.room ∙ c.settle.ensures.room;
+      room = c.go_on.ensures.room ∙ c.settle.ensures.room;
       value = dropped_applied g.M.Memory.keeps (masked c.args.snapshot.now) c.args.fate c.args.bound c.args.round c.args.from (entries_of (vec_items c.args.stack.now))
-          (entries_of (vec_items c.settle.new.stack)) (entries_of (vec_items c.go-on.new.stack)) c.args.memory.now c.settle.new.memory c.go-on.result
-          c.in-Dropped.is c.settle.ensures.stack c.settle.ensures.kept c.go-on.ensures.value;
+          (entries_of (vec_items c.settle.new.stack)) (entries_of (vec_items c.go_on.new.stack)) c.args.memory.now c.settle.new.memory c.go_on.result
+          c.in-Dropped.is c.settle.ensures.stack c.settle.ensures.kept c.go_on.ensures.value;
     }
 
 pub returns-in-Found : goal.returns-in-Found
@@ -36,7 +36,7 @@ returns-in-Found g c =
 pub returns-in-Split : goal.returns-in-Split
 returns-in-Split g c =
     record {
-      room = c.push-halves.ensures.room;
+      room = c.push_halves.ensures.room;
       value = split_applied g.M.Memory.keeps (masked c.args.snapshot.now) c.args.fate c.args.bound c.args.round c.args.from (entries_of (vec_items c.args.stack.now))
-          (entries_of (vec_items c.push-halves.new.stack)) c.args.memory.now c.in-Split.halves c.in-Split.is c.push-halves.ensures.value;
+          (entries_of (vec_items c.push_halves.new.stack)) c.args.memory.now c.in-Split.halves c.in-Split.is c.push_halves.ensures.value;
     }

@@ -22,7 +22,7 @@ loop-level-preserved g c =
     let recall = recalls (g.M.Memory.has c.args.memory.now) in
     let hopeless = g.E.Estimator.hopeless c.args.estimator.now m in
     let j = c.loop-level.level in
-    let is = c.state-at-state.ensures m c.requires.own in
+    let is = c.state_at-state.ensures m c.requires.own in
     some_step (told m recall hopeless 0 p.round None q []) j
     ∙ ap (λ b. b || some_below j (told m recall hopeless 0 p.round None q [])) (told_is m recall hopeless 0 p.round None q [] j)
     ∙ both_no (recall (state_of m q j) (p.round - j)) (hopeless (state_of m q j) (p.round - j)) _
@@ -38,7 +38,7 @@ returns-then-recall g c =
     let recall = recalls (g.M.Memory.has c.args.memory.now) in
     let hopeless = g.E.Estimator.hopeless c.args.estimator.now m in
     let j = c.loop-level.level in
-    let is = c.state-at-state.ensures m c.requires.own in
+    let is = c.state_at-state.ensures m c.requires.own in
     sym (some_at (told m recall hopeless 0 p.round None q []) (c.args.last + 1) j c.loop-level-test.true
     (told_is m recall hopeless 0 p.round None q [] j ∙ or_left (recall (state_of m q j) (p.round - j)) _ (ap (λ s. recall s (p.round - j)) (sym is) ∙ sym c.if-recall.ensures.value)))
 
@@ -50,7 +50,7 @@ returns-then-hopeless g c =
     let recall = recalls (g.M.Memory.has c.args.memory.now) in
     let hopeless = g.E.Estimator.hopeless c.args.estimator.now m in
     let j = c.loop-level.level in
-    let is = c.state-at-state.ensures m c.requires.own in
+    let is = c.state_at-state.ensures m c.requires.own in
     sym (some_at (told m recall hopeless 0 p.round None q []) (c.args.last + 1) j c.loop-level-test.true
     (told_is m recall hopeless 0 p.round None q [] j ∙ or_right (recall (state_of m q j) (p.round - j)) _ (ap (λ s. hopeless s (p.round - j)) (sym is) ∙ sym c.if-hopeless.ensures.value)))
 

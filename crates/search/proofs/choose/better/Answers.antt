@@ -2,9 +2,9 @@ use Rattle.std.proofs.Common.{rules}
 use Rattle.search.specs.Steps.{better}
 use Rattle.search.proofs.choose.better.Goals as goal
 
-pub returns-in-default : goal.returns-in-default
+pub returns-in_default : goal.returns-in_default
 unfolding better
-returns-in-default c = search rules
+returns-in_default c = search rules
 
 pub returns-in-None : goal.returns-in-None
 unfolding better

@@ -8,9 +8,9 @@ loop-f-init c of = begun (masked c.args.snapshot.now) c.args.part.now c.args.ste
 
 pub loop-f-preserved : goal.loop-f-preserved
 loop-f-preserved c of =
-    gone_on (masked c.args.snapshot.now) c.args.part.now c.args.step of c.requires.step c.loop-f.rest c.pop-lowest.new.self c.loop-f.best c.in-Some.f
+    gone_on (masked c.args.snapshot.now) c.args.part.now c.args.step of c.requires.step c.loop-f.rest c.pop_lowest.new.self c.loop-f.best c.in-Some.f
     c.removers.result c.removers.ensures.value c.distance.result c.distance.ensures.value c.better-best.result c.better-best.ensures.value
     c.in-Some.ensures.value (c.loop-f.invariant of)
 
 pub returns : goal.returns
-returns c = record { value = λ of. all_weighed (masked c.args.snapshot.now) c.args.part.now c.args.step of c.requires.step c.loop-f.rest c.loop-f.best c.in-default.ensures.value.0 (c.loop-f.invariant of) }
+returns c = record { value = λ of. all_weighed (masked c.args.snapshot.now) c.args.part.now c.args.step of c.requires.step c.loop-f.rest c.loop-f.best c.in_default.ensures.value.0 (c.loop-f.invariant of) }

@@ -12,5 +12,5 @@ returns-in-Some c = record {
 pub returns-in-None : goal.returns-in-None
 returns-in-None c = record {
   value = λ of. lowest_first (masked c.args.snapshot.now) c.args.part.now c.args.step of c.requires.step (c.in-None.ensures.value of)
-      c.lowest-alone.result c.lowest-alone.ensures.value;
+      c.lowest_alone.result c.lowest_alone.ensures.value;
 }

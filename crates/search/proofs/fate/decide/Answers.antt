@@ -8,10 +8,10 @@ use Rattle.tasks.specs.Masking.{masked_lawful}
 use Rattle.search.proofs.Deciding.{kept_largest, next_wiped}
 use Rattle.search.proofs.fate.decide.Goals as goal
 
-pub look-at-requires : goal.look-at-requires
-look-at-requires g c =
+pub look_at-requires : goal.look_at-requires
+look_at-requires g c =
     let m = masked c.args.snapshot.now in
-    let q = c.filter-snapshot.new.part in
+    let q = c.filter_snapshot.new.part in
     let does = c.in-Ok.ensures.value in
     let l = kept_largest m (structure c.args.part) (structure q) (subst (λ (b : Bool). Filtered m (structure c.args.part) b (structure q)) (ap stands c.in-Kept.is) does.1) in
     record {
@@ -23,18 +23,18 @@ look-at-requires g c =
 pub returns-in-Kept : goal.returns-in-Kept
 returns-in-Kept g c =
     let m = masked c.args.snapshot.now in
-    let q = structure c.filter-snapshot.new.part in
+    let q = structure c.filter_snapshot.new.part in
     record {
       stands = true;
       result = q;
       filtered = subst (λ (b : Bool). Filtered m (structure c.args.part) b q) (ap stands c.in-Kept.is) c.in-Ok.ensures.value.1;
-      comes = c.look-at.ensures;
+      comes = c.look_at.ensures;
     }
 
 pub returns-in-Wiped : goal.returns-in-Wiped
 returns-in-Wiped g c =
     let m = masked c.args.snapshot.now in
-    let q = structure c.filter-snapshot.new.part in
+    let q = structure c.filter_snapshot.new.part in
     record {
       stands = false;
       result = q;

@@ -16,11 +16,11 @@ returns c =
     let q = structure p in
     let i = c.args.step in
     let d = first_half m q i (best_below m q i m.facts) in
-    let taken = c.first-half-taken.ensures.value c.requires.own in
+    let taken = c.first_half-taken.ensures.value c.requires.own in
     record {
       step = refl;
       state = c.state_at.ensures m c.requires.own;
-      first = c.half-of.ensures m d taken;
-      second = c.half-of-2.ensures m (λ a. not (d a))
+      first = c.half_of.ensures m d taken;
+      second = c.half_of-2.ensures m (λ a. not (d a))
           (λ a. c.without-rest.ensures.value a ∙ ap (λ b. among (step_at p i) a && not b) (taken a) ∙ left_over (among (step_at p i) a) (d a));
     }

@@ -13,10 +13,10 @@ returns c =
     let all : min c.facts-facts.result 64 ≡ t.facts = omega arith in
     record {
       long = search rules;
-      value = first_levels (masked t) c.args.round c.same-levels-levels.result c.all.result c.of-state.result _ c.opposites.result c.without.result
-          (omega arith) c.same-levels-levels.ensures.long c.same-levels-levels.ensures.value
+      value = first_levels (masked t) c.args.round c.same_levels-levels.result c.all.result c.of_state.result _ c.opposites.result c.without.result
+          (omega arith) c.same_levels-levels.ensures.long c.same_levels-levels.ensures.value
           (λ f v. c.all.ensures.value f v ∙ ap (ltb f) all)
-          (λ f v. c.of-state.ensures.value f v ∙ ap (λ (n : ℕ). ltb f (min n 64) && is v (bit c.start_state.result f)) facts
+          (λ f v. c.of_state.ensures.value f v ∙ ap (λ (n : ℕ). ltb f (min n 64) && is v (bit c.start_state.result f)) facts
           ∙ start_level t.facts t.start c.start_state.result f v few c.start_state.ensures)
           refl
           (λ f v. c.opposites.ensures.value f v ∙ c.goals.ensures f (not v))

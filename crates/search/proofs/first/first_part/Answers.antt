@@ -7,5 +7,5 @@ use Rattle.search.proofs.first.first_part.Goals as goal
 pub returns : goal.returns
 returns c =
     let t = c.args.snapshot.now in
-    let p : Part = record { round = c.args.round; steps = c.same-steps.result; levels = c.first_levels.result; wide = c.same-steps.ensures.long; long = c.first_levels.ensures.long } in
-    record { value = first_structure (masked t) (masked_lawful t) p c.usable-actions.result c.requires c.usable-actions.ensures c.same-steps.ensures.value c.first_levels.ensures.value }
+    let p : Part = record { round = c.args.round; steps = c.same_steps.result; levels = c.first_levels.result; wide = c.same_steps.ensures.long; long = c.first_levels.ensures.long } in
+    record { value = first_structure (masked t) (masked_lawful t) p c.usable_actions.result c.requires c.usable_actions.ensures c.same_steps.ensures.value c.first_levels.ensures.value }

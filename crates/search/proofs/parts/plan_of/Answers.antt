@@ -10,13 +10,13 @@ loop-i-preserved c =
     let p = c.args.part.now in
     let i = c.loop-i.i in
     let xs = c.loop-i.actions in
-    let a = c.lowest-of.result in
+    let a = c.lowest_of.result in
     let room : i < length xs = omega (arith, c.loop-i.invariant.0, c.requires) in (
       simp length-set c.loop-i.invariant.0,
       λ m of good. below_more (λ j. get_or (set xs i a) j 0 ≡ lowest m.actions ((structure p).left j)) i
           (λ j l. let ne : j ≢ i = omega arith in get_or-set_other xs i j a 0 ne ∙ c.loop-i.invariant.1 m of good j l)
           (let w = some_action m p of i c.loop-i-test.true good in
-          get_or-set_same xs i a 0 room ∙ lowest_stored m p of i c.loop-i-test.true a (c.lowest-of.ensures w.0 w.1)),
+          get_or-set_same xs i a 0 room ∙ lowest_stored m p of i c.loop-i-test.true a (c.lowest_of.ensures w.0 w.1)),
     )
 
 pub returns : goal.returns

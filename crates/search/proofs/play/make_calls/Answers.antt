@@ -20,9 +20,9 @@ loop-call-preserved g c =
       omega arith,
       omega arith,
       calls_more g.row.M.Denot (λ x. recalls (g.M.Memory.has x)) g.M.Memory.keeps g.M.Memory.empties m (g.E.Estimator.hopeless c.args.estimator.now m)
-          c.args.calls.now c.loop-call.call-index _ (vec_items c.loop-call.answers) (vec_items c.push-reserved.new.self) c.make-call.result
-          (machine_of c.args.search.now) (machine_of c.loop-call.search) (machine_of c.make-call.new.search) c.args.memory.now c.loop-call.memory c.make-call.new.memory
-          (omega arith) c.push-reserved.ensures.items c.loop-call.invariant.3 c.make-call.ensures,
+          c.args.calls.now c.loop-call.call-index _ (vec_items c.loop-call.answers) (vec_items c.push_reserved.new.self) c.make_call.result
+          (machine_of c.args.search.now) (machine_of c.loop-call.search) (machine_of c.make_call.new.search) c.args.memory.now c.loop-call.memory c.make_call.new.memory
+          (omega arith) c.push_reserved.ensures.items c.loop-call.invariant.3 c.make_call.ensures,
     )
 
 pub returns : goal.returns

@@ -14,19 +14,19 @@ returns g c =
     let h = g.E.Estimator.hopeless c.args.estimator.now m in
     let lawful = g.met.T.Task.lawful c.args.task.now in
     let S = machine_of c.args.search.now in
-    let S' = machine_of c.make-calls.new.search in
-    let x' = c.make-calls.new.memory in
-    let answers = vec_items c.make-calls.new.answers in
+    let S' = machine_of c.make_calls.new.search in
+    let x' = c.make_calls.new.memory in
+    let answers = vec_items c.make_calls.new.answers in
     let t = tally untouched c.args.calls.now answers in
     let fresh = blank_told S.stage S.bound (sym c.in-Blank.ensures.value) in
     let all = all_called g.row.M.Denot g.M.Memory.has g.M.Memory.keeps (λ y s k z. g.met.M.Memory.invents_nothing y z s k) g.M.Memory.empties g.met.M.Memory.forgets_all m lawful h
-    (g.met.E.Estimator.sound c.args.estimator.now m lawful) c.make-calls.ensures fresh in
+    (g.met.E.Estimator.sound c.args.estimator.now m lawful) c.make_calls.ensures fresh in
     record {
       value = record {
         fresh = fresh;
         one_each = all.0;
-        made = c.make-calls.ensures;
+        made = c.make_calls.ensures;
         law = subst (λ (v : Verdict). StandsLawfully m t v c.plan.new.buffer) (sym c.verdict-2.ensures.value)
-            (stands_lawfully m t S' all.1.fits (c.verdict-2.ensures.law (g.M.Memory.has x') m h t.amount all.1.run) (c.verdict-2.ensures.within (g.M.Memory.has x') m h t.amount all.1.run) _ c.plan.new.buffer c.plan.result c.plan.ensures.does c.make-calls.new.search.small);
+            (stands_lawfully m t S' all.1.fits (c.verdict-2.ensures.law (g.M.Memory.has x') m h t.amount all.1.run) (c.verdict-2.ensures.within (g.M.Memory.has x') m h t.amount all.1.run) _ c.plan.new.buffer c.plan.result c.plan.ensures.does c.make_calls.new.search.small);
       };
     }

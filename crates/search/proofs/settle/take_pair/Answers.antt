@@ -20,7 +20,7 @@ returns-in-Open c =
     let here = vec_items c.pop.new.self in
     let was : vec_items c.args.stack.now ≡ here ++ Open c.in-Open.open ∷ [] = c.in-Some.ensures.items ∙ ap (λ (e : stored.Entry). here ++ e ∷ []) c.in-Open.is in
     record {
-      room = c.push-reserved.ensures.capacity ∙ c.in-Some.ensures.capacity;
+      room = c.push_reserved.ensures.capacity ∙ c.in-Some.ensures.capacity;
       less = λ e. absurd (false≢true e);
-      taken = (ap entries_of (c.push-reserved.ensures.items ∙ sym was), ap (λ es. pairs_on_top (entries_of es)) was ∙ ap pairs_on_top (entries_push here (Open c.in-Open.open)));
+      taken = (ap entries_of (c.push_reserved.ensures.items ∙ sym was), ap (λ es. pairs_on_top (entries_of es)) was ∙ ap pairs_on_top (entries_push here (Open c.in-Open.open)));
     }

@@ -11,9 +11,9 @@ pub returns : goal.returns
 returns g c =
     let m = meaning g.T.Task c.args.task.now in
     let S = machine_of c.args.self.now in
-    let S' = machine_of c.put-up.new.self in
+    let S' = machine_of c.put_up.new.self in
     let does : Lifted m c.args.bound S S' = record {
-      allowed = sym c.in-default.ensures.value;
-      search = c.put-up.ensures ∙ ap (λ (t : Meaning). put_up t c.args.bound (c.args.self.now.bound + 1)) c.of.ensures.value;
+      allowed = sym c.in_default.ensures.value;
+      search = c.put_up.ensures ∙ ap (λ (t : Meaning). put_up t c.args.bound (c.args.self.now.bound + 1)) c.of.ensures.value;
     } in
     record { does = does; run = λ P h n run. lifts run c.args.bound (Ok tt) does }

@@ -13,11 +13,11 @@ returns g c =
     let m = meaning g.T.Task c.args.task.now in
     let S = machine_of c.args.self.now in
     let x = c.args.memory.now in
-    let S' = machine_of c.put-up.new.self in
+    let S' = machine_of c.put_up.new.self in
     let x' = c.empty.new.self in
     let does : Opened g.row.M.Denot g.M.Memory.empties m c.args.bound S x S' x' = record {
-      allowed = sym c.in-default.ensures.value;
-      search = c.put-up.ensures ∙ ap (λ (t : Meaning). put_up t c.args.bound 0) c.of.ensures.value;
+      allowed = sym c.in_default.ensures.value;
+      search = c.put_up.ensures ∙ ap (λ (t : Meaning). put_up t c.args.bound 0) c.of.ensures.value;
       emptied = c.empty.ensures.after;
     } in
     record {

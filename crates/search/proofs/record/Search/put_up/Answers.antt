@@ -13,27 +13,21 @@ use Rattle.search.proofs.Topping.{put_up_topped}
 use Rattle.search.proofs.Stepping.{kept_so, machine_so}
 use Rattle.search.proofs.record.Search.put_up.Goals as goal
 
-pub invariant-of-self : goal.invariant-of-self
+pub invariant_of-self : goal.invariant_of-self
 unfolding put_up
-invariant-of-self c =
+invariant_of-self c =
     let m = masked c.args.snapshot.now in
     let k = c.args.round in
     let bound = c.args.bound in
-    let e = ap (λ es. entries_of es) (c.push-reserved.ensures.items ∙ ap (λ (es : List stored.Entry). es ++ Open (record { part = c.first-part-part.result; from = None }) ∷ []) c.clear.ensures.items)
-    ∙ ap (λ (p : Structure). part p None ∷ []) c.first-part-part.ensures.value in (
-      c.requires.bound,
-      (
-        c.requires.round,
-        (
-          omega (arith, c.args.self.now.room, c.clear.ensures.capacity, c.push-reserved.ensures.capacity),
-          (
-            kept_so unfinished k (entries_of (vec_items c.push-reserved.new.self)) (put_up m bound k) refl refl e
-                ∣ record { shallow = put_up_shallow 128 m bound k; topped = λ _. put_up_topped m bound k } ∣₁,
-            tt,
-          ),
-        ),
-      ),
-    )
+    let e = ap (λ es. entries_of es) (c.push_reserved.ensures.items ∙ ap (λ (es : List stored.Entry). es ++ Open (record { part = c.first_part-part.result; from = None }) ∷ []) c.clear.ensures.items)
+    ∙ ap (λ (p : Structure). part p None ∷ []) c.first_part-part.ensures.value in
+    record {
+      small = c.requires.bound;
+      within = c.requires.round;
+      room = omega (arith, c.args.self.now.room, c.clear.ensures.capacity, c.push_reserved.ensures.capacity);
+      kept = kept_so unfinished k (entries_of (vec_items c.push_reserved.new.self)) (put_up m bound k) refl refl e
+          ∣ record { shallow = put_up_shallow 128 m bound k; topped = λ _. put_up_topped m bound k } ∣₁;
+    }
 
 pub returns : goal.returns
 unfolding put_up
@@ -41,6 +35,6 @@ returns c =
     let m = masked c.args.snapshot.now in
     let k = c.args.round in
     let bound = c.args.bound in
-    let e = ap (λ es. entries_of es) (c.push-reserved.ensures.items ∙ ap (λ (es : List stored.Entry). es ++ Open (record { part = c.first-part-part.result; from = None }) ∷ []) c.clear.ensures.items)
-    ∙ ap (λ (p : Structure). part p None ∷ []) c.first-part-part.ensures.value in
-    machine_so unfinished bound k (entries_of (vec_items c.push-reserved.new.self)) (put_up m bound k) refl refl refl e
+    let e = ap (λ es. entries_of es) (c.push_reserved.ensures.items ∙ ap (λ (es : List stored.Entry). es ++ Open (record { part = c.first_part-part.result; from = None }) ∷ []) c.clear.ensures.items)
+    ∙ ap (λ (p : Structure). part p None ∷ []) c.first_part-part.ensures.value in
+    machine_so unfinished bound k (entries_of (vec_items c.push_reserved.new.self)) (put_up m bound k) refl refl refl e
