@@ -39,9 +39,9 @@ returns c =
     let v = advance_from bake_and_copy m₀ same 1 (λ old. refl) (run bake_and_copy 4 11).machine refl S₃ c.advance-first.new.memory c.advance-second.new.memory (run bake_and_copy 4 11).rows refl u.2 S₂ u.1 c.advance-second.result c.advance-second.ensures.does in
     record {
       eleven_steps_are_made = u.0;
-      then-it-is-unfinished = c.verdict-between.ensures.value ∙ ap (λ (M : Machine). verdict_of M.stage M.bound) u.1;
+      then_it_is_unfinished = c.verdict-between.ensures.value ∙ ap (λ (M : Machine). verdict_of M.stage M.bound) u.1;
       one_step_is_made = v.0;
-      then-a-plan-of-four-stands = c.verdict-end.ensures.value ∙ ap (λ (M : Machine). verdict_of M.stage M.bound) v.1;
+      then_a_plan_of_four_stands = c.verdict-end.ensures.value ∙ ap (λ (M : Machine). verdict_of M.stage M.bound) v.1;
       it_is_bake_thread_copy_unthread = ap (λ (M : Machine). M.stage) v.1;
       one_pair_was_kept = v.2;
     }

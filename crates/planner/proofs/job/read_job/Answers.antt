@@ -13,13 +13,13 @@ returns-in-Err c =
     let after = tables_of c.read.new.needs c.read.new.makes c.read.new.start c.read.new.goal in
     record { value = refused_as c.args.sheet.now blank after c.in-Err.refusal c.in-Err.ensures.value (room 8192 64 (omega arith) (omega arith)) }
 
-pub returns-in-Ok-from-tables : goal.returns-in-Ok-from-tables
-returns-in-Ok-from-tables c =
+pub returns-in-Ok-from_tables : goal.returns-in-Ok-from_tables
+returns-in-Ok-from_tables c =
     let k = c.in-Ok.counts in
     let after = tables_of c.read.new.needs c.read.new.makes c.read.new.start c.read.new.goal in
     let p = read_as c.args.sheet.now blank after k c.in-Ok.ensures.value (room 8192 64 (omega arith) (omega arith)) in
     let x = p.0 in
-    let made = c.in-Ok-from-tables.ensures in
+    let made = c.in-Ok-from_tables.ensures in
     let law = c.in-Ok.ensures.law in
     record {
       value = (

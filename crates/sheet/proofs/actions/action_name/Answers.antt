@@ -14,7 +14,7 @@ returns-in-Err c =
 pub returns-then-action-counts : goal.returns-then-action-counts
 returns-then-action-counts c =
     let bs = c.args.sheet.now in
-    let v = agree_at_ok _ (named bs c.args.action) _ _ c.name-in.ensures.named refl in
+    let v = agree_at_ok _ (named bs c.args.action) _ _ c.name_in.ensures.named refl in
     record { value = v; law = names_law bs c.args.action _ v }
 
 pub returns-else-action-counts : goal.returns-else-action-counts

@@ -4,11 +4,11 @@ use Rattle.sheet.specs.Words.{words}
 use Rattle.sheet.proofs.ActionNames.{accepted_limits, its_name, short_name, line_at}
 use Rattle.sheet.proofs.names.name_in.Goals as goal
 
-pub overflow-add-counts : goal.overflow-add-counts
-overflow-add-counts c = let l = accepted_limits c.args.sheet.now c.args.counts c.requires.accepted in omega (arith, l.1)
+pub overflow_add-counts : goal.overflow_add-counts
+overflow_add-counts c = let l = accepted_limits c.args.sheet.now c.args.counts c.requires.accepted in omega (arith, l.1)
 
-pub overflow-add-counts-2 : goal.overflow-add-counts-2
-overflow-add-counts-2 c = let l = accepted_limits c.args.sheet.now c.args.counts c.requires.accepted in omega (arith, l.1, l.2, c.requires.below)
+pub overflow_add-counts-2 : goal.overflow_add-counts-2
+overflow_add-counts-2 c = let l = accepted_limits c.args.sheet.now c.args.counts c.requires.accepted in omega (arith, l.1, l.2, c.requires.below)
 
 pub returns-in-Some : goal.returns-in-Some
 returns-in-Some c =

@@ -4,4 +4,4 @@ use Rattle.sheet.specs.Dues.{among, seconds}
 use Rattle.sheet.proofs.names.used.Given as goal
 
 abbrev pub invariant-loop-i : goal.invariant-loop-i
-invariant-loop-i l = among l.name (seconds (l.count - l.-i) (to_come l.section)) ≡ among l.name (seconds l.count (to_come l.initial.section))
+invariant-loop-i l = among l.name (seconds (l.count - l._i) (to_come l.section)) ≡ among l.name (seconds l.count (to_come l.initial.section))

@@ -12,9 +12,9 @@ returns-in-Ok c =
     let plan = c.args.plan.now in
     let before = c.args.buffer.now in
     let p = agree_ok _ (checked bs) _ c.in-Ok.ensures.value in
-    let told = of_accepted bs v plan (length before) (not_blank v c.in-default.not-Blank) (omega arith) p.0 c.in-Ok.counts p.1 p.2 in
-    let value : Written (report_text bs v plan (length before)) before c.write-verdict.new.buffer c.write-verdict.result = rw told c.write-verdict.ensures.value in
-    record { value = value; within = c.write-verdict.ensures.within; same = c.write-verdict.ensures.same; law = reports bs v plan (length before) before _ _ value }
+    let told = of_accepted bs v plan (length before) (not_blank v c.in_default.not-Blank) (omega arith) p.0 c.in-Ok.counts p.1 p.2 in
+    let value : Written (report_text bs v plan (length before)) before c.write_verdict.new.buffer c.write_verdict.result = rw told c.write_verdict.ensures.value in
+    record { value = value; within = c.write_verdict.ensures.within; same = c.write_verdict.ensures.same; law = reports bs v plan (length before) before _ _ value }
 
 pub returns-in-Err : goal.returns-in-Err
 returns-in-Err c =
@@ -24,7 +24,7 @@ returns-in-Err c =
     let room = length c.args.buffer.now in
     let e = agree_err _ (checked bs) c.in-Err.field-0 c.in-Err.ensures.value in
     record {
-      value = agree_at_err _ (report_text bs v plan room) _ _ (of_refused bs v plan room (not_blank v c.in-default.not-Blank) (omega arith) c.in-Err.field-0 e) refl;
+      value = agree_at_err _ (report_text bs v plan room) _ _ (of_refused bs v plan room (not_blank v c.in_default.not-Blank) (omega arith) c.in-Err.field-0 e) refl;
       within = tt;
       same = refl;
       law = tt;

@@ -5,4 +5,4 @@ use Rattle.sheet.proofs.text.put.Goals as goal
 pub returns : goal.returns
 returns c =
     let bytes = c.args.bytes.now in
-    record { after = added_put c.args.buffer.now bytes c.args.at (c.args.at + length bytes) c.copy-from-slice.new.self refl (omega arith) c.copy-from-slice.ensures.after }
+    record { after = added_put c.args.buffer.now bytes c.args.at (c.args.at + length bytes) c.copy_from_slice.new.self refl (omega arith) c.copy_from_slice.ensures.after }

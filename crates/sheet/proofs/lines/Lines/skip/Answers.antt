@@ -8,4 +8,4 @@ pub loop-i-preserved : goal.loop-i-preserved
 loop-i-preserved c =
     let ls = to_come c.loop-i.self in
     next_rest ls _ (to_come c.next.new.self) c.next.ensures.next
-    ∙ rest_drop c.loop-i.-i (to_come c.args.self.now) ls c.loop-i.invariant
+    ∙ rest_drop c.loop-i._i (to_come c.args.self.now) ls c.loop-i.invariant
