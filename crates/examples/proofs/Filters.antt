@@ -1,21 +1,19 @@
 -- What the sweeps leave is what the filter leaves. Everything that a sweep removes, a rule removes of every consistent structure
 -- below, so that each of these stays below; where nothing goes any more, what is left is consistent itself.
-use Rattle.std.proofs.Common.{◌≡◌, ℕ, zero, suc, ◌<◌, ◌≤◌, Bool, true, false, not, ◌&&◌, ◌||◌, ltb, leb, ◌⊎◌, ℤ, sym, refl, ap, ◌∙◌, subst, ap₂, inl, inr, arith}
+use Rattle.std.proofs.Common.{◌≡◌, ℕ, zero, suc, ◌<◌, ◌≤◌, Bool, true, false, not, ◌&&◌, ltb, leb, ◌⊎◌, ℤ, sym, refl, ap, ◌∙◌, subst, ap₂, inl, inr, arith}
 use mathlib.Core.Path.{fun_ext}
 use lib.Dec.{leb-suc-suc}
 use Rattle.std.proofs.lemmas.Bool.{both_ways, not-true, not_from_false, and_parts, and_from, or_cases, or_left, or_right, ltb-true, leb-true, lt-ltb, le-leb}
 use Rattle.tasks.specs.Meaning.{Meaning, value, opposite}
 use Rattle.filter.specs.Structures.{Structure, Below, trimmed, bare}
-use Rattle.filter.specs.Rules.{Stage, stage, Settled}
+use Rattle.filter.specs.Rules.{stage, Settled}
 use Rattle.filter.specs.Filtering.{Consistent, Filtered}
 use Rattle.filter.specs.Filtering.Filtered.{kept, wiped}
 use Rattle.filter.proofs.Values.{opposed}
 use Rattle.filter.proofs.Uniqueness.{one_result}
-use Rattle.estimators.specs.Ranges.{all_below}
 use Rattle.estimators.specs.Tallies.{all_at, all_from}
-use Rattle.search.specs.Steps.{some_below}
 use Rattle.search.proofs.Lowest.{some_in, some_witness}
-use Rattle.examples.proofs.Sweeps.{tells, valued, listed, written, makes_it, makes_if_left, needs_if_left, some_makes, all_make, all_need, goes_after, goes_before, goes_behind, value_stays, bars, bars_either, barred, action_stays, swept, action_firm, value_firm, step_firm, fact_firm, level_firm, steps_firm, levels_firm, firm, step_full, fact_full, level_full, steps_full, levels_full, full, Outcome, pick, sweeps, outcome}
+use Rattle.examples.proofs.Sweeps.{tells, valued, listed, written, makes_it, makes_if_left, needs_if_left, some_makes, goes_after, goes_before, goes_behind, value_stays, bars, bars_either, barred, action_stays, swept, action_firm, value_firm, step_firm, fact_firm, level_firm, steps_firm, levels_firm, firm, step_full, fact_full, level_full, steps_full, levels_full, full, Outcome, pick, sweeps, outcome}
 use Rattle.examples.proofs.Ranges.{tells_is, is_told, table_at, twice, implied, implies, off, never_true, never_false, either_value, either_way}
 
 abbrev made_of : ℕ → (ℕ → ℕ → Bool) → (ℕ → ℕ → Bool → Bool) → Structure

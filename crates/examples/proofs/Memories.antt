@@ -1,6 +1,6 @@
 -- Every pair can be kept in a list memory, as the code of its `keep` does it: the row of the state is raised or stays, or a row is
 -- added, or there is no room.
-use Rattle.std.proofs.Common.{◌≡◌, ℕ, zero, suc, ◌+◌, ◌<◌, ◌≤◌, ◌⊎◌, List, [], ◌∷◌, length, get_or, take, set, sym, refl, ◌∙◌, subst, inl, inr, add-one, arith, length-set}
+use Rattle.std.proofs.Common.{◌≡◌, ℕ, zero, suc, ◌+◌, ◌<◌, ◌≤◌, get_or, set, sym, refl, ◌∙◌, subst, inl, inr, add-one, arith, length-set}
 use Rattle.std.proofs.lemmas.Bool.{cases_lt}
 use Rattle.memories.specs.declared.list.ListMemory.{ListMemory}
 use Rattle.memories.specs.Chains.{state_at}

@@ -1,5 +1,5 @@
 -- Tests over small ranges, and lists of a function's values: each is read off by cases.
-use Rattle.std.proofs.Common.{◌≡◌, ℕ, zero, suc, ◌<◌, ◌≤◌, Bool, true, false, cond, not, ◌&&◌, ◌||◌, ltb, List, [], ◌∷◌, get_or, ℤ, pos, negsuc, sym, refl, ap, ◌∙◌, arith}
+use Rattle.std.proofs.Common.{◌≡◌, ℕ, zero, suc, Bool, true, false, cond, not, ◌&&◌, ◌||◌, ltb, [], get_or, ℤ, pos, negsuc, sym, refl, ap, ◌∙◌, arith}
 use lib.Dec.{leb-suc-suc}
 use Rattle.std.proofs.lemmas.Bool.{both_ways, eqb-true, lt-ltb, le-ltb, or_left, or_right}
 use Rattle.tasks.specs.Meaning.{value}

@@ -1,12 +1,11 @@
 -- Every run of steps is the one that computes: step by step, by the filter's one result and the list memory's rows. And there is one.
-use Rattle.std.proofs.Common.{◌≡◌, ℕ, zero, suc, ◌+◌, ◌<◌, ◌≤◌, Bool, true, false, ◌&&◌, ◌⊎◌, List, [], ◌∷◌, sym, refl, ap, ◌∙◌, subst, ap₂, subst₂, inl, inr, add-one, arith}
+use Rattle.std.proofs.Common.{◌≡◌, ℕ, zero, suc, ◌<◌, Bool, true, false, List, [], ◌∷◌, sym, refl, ap, ◌∙◌, subst, ap₂, subst₂, inl, inr, add-one, arith}
 use Rattle.std.proofs.lemmas.Bool.{both_ways, and_parts, cases_eq, cases_lt}
 use Rattle.tasks.specs.Meaning.{Meaning}
 use Rattle.filter.specs.Structures.{Structure}
 use Rattle.memories.specs.declared.list.ListMemory.{ListMemory}
 use Rattle.memories.specs.declared.row.Row.{Row}
 use Rattle.memories.specs.Lists.{rows_of}
-use Rattle.memories.specs.Rows.{keep_row}
 use Rattle.estimators.specs.GoalCounts.{goal_count}
 use Rattle.search.specs.Machines.{Entry, Stage, Machine, Made}
 use Rattle.search.specs.Machines.Entry.{part, pair}
@@ -19,7 +18,7 @@ use Rattle.examples.specs.Ends.{recalled, kept, Ends}
 use Rattle.examples.proofs.Sweeps.{outcome}
 use Rattle.examples.proofs.Filters.{filter_is, computed}
 use Rattle.examples.proofs.Computing.{recall_rows, keep_rows, Running, from, with_entries, in_stage, step, steps, run}
-use Rattle.examples.proofs.Memories.{Keep, keep_in}
+use Rattle.examples.proofs.Memories.{keep_in}
 
 -- the rows after pairs were kept
 kept_are : {ks : List (ℕ × ℕ)} {x y : ListMemory} → Keeps ListMemory kept ks x y → rows_of y ≡ keep_rows (rows_of x) ks

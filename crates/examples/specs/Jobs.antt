@@ -1,5 +1,5 @@
 -- The tasks of the worked examples, each as tables: a row of cells for each action, a cell for each fact.
-use Rattle.std.specs.Prelude.{ℕ, true, List, [], ◌∷◌, ℤ, pos, negsuc}
+use Rattle.std.specs.Prelude.{true, List, [], ◌∷◌, ℤ, pos, negsuc}
 use Rattle.tasks.specs.Meaning.{Meaning}
 use Rattle.tasks.specs.Tables.{table_task}
 use Rattle.tasks.specs.Bans.{banned, listed}

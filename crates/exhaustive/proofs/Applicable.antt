@@ -1,10 +1,10 @@
 -- The test whether an action applies decides that it does.
-use Rattle.std.proofs.Common.{◌≡◌, ℕ, zero, suc, ◌<◌, Bool, true, false, not, ◌&&◌, ℤ, pos, negsuc, Decides, sym, refl, ap, ◌∙◌, arith}
+use Rattle.std.proofs.Common.{◌≡◌, ℕ, zero, suc, Bool, true, ◌&&◌, ℤ, pos, negsuc, Decides, sym, refl, arith}
 use Rattle.std.proofs.lemmas.Bool.Decides.{Decides-and, Decides-like, Decides-below_and, same_from_decides}
-use Rattle.std.proofs.lemmas.Bool.{false≢true, not-true, not_from_false}
+use Rattle.std.proofs.lemmas.Bool.{not-true, not_from_false}
 use Rattle.sets.specs.Bits.{bit}
 use Rattle.tasks.specs.Meaning.{Meaning, Lawful, Three}
-use Rattle.tasks.specs.States.{Applies, Holds, Meets}
+use Rattle.tasks.specs.States.{Applies, Holds}
 use Rattle.exhaustive.specs.Sequences.{agrees, every, applicable}
 
 unlike : {P : Type 0} → pos 0 ≡ pos 1 → P

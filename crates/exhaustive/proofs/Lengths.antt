@@ -1,5 +1,5 @@
 -- Lengths tried in turn: where no sequence of any length below n reaches the goals, one of n actions that does is a shortest.
-use Rattle.std.proofs.Common.{◌≡◌, ℕ, zero, suc, ◌+◌, ◌<◌, ◌≤◌, ◌⊎◌, List, length, sym, refl, ap, ◌∙◌, subst, inl, inr, add-one, arith, below_more}
+use Rattle.std.proofs.Common.{◌≡◌, ℕ, suc, ◌+◌, ◌<◌, ◌≤◌, List, length, sym, refl, ap, ◌∙◌, subst, inl, inr, add-one, arith, below_more}
 use Rattle.std.proofs.lemmas.Bool.{cases_lt}
 use Rattle.tasks.specs.Meaning.{Meaning}
 use Rattle.tasks.specs.States.{Reaches, Shortest, Solvable, Solves, start_state}

@@ -1,5 +1,5 @@
 -- How many sequences of actions there are to try.
-use Rattle.std.specs.Prelude.{ℕ, zero, suc, ◌+◌, Bool, true, false, cond, not, ◌&&◌, ℤ, pos, negsuc}
+use Rattle.std.specs.Prelude.{ℕ, zero, suc, ◌+◌, Bool, true, cond, not, ◌&&◌, ℤ, pos, negsuc}
 use Rattle.sets.specs.Bits.{bit}
 use Rattle.tasks.specs.Meaning.{Meaning}
 use Rattle.tasks.specs.States.{after, start_state}

@@ -3,7 +3,7 @@
 use Rattle.std.proofs.Common.{◌≡◌, ℕ, zero, suc, ◌<◌, ◌≤◌, Bool, true, false, not, ◌||◌, List, [], ◌∷◌, length, get_or, sym, refl, ap, ◌∙◌, subst, inl, inr, arith}
 use Rattle.std.proofs.lemmas.Bool.{cases_Bool, or_cases}
 use Rattle.sets.specs.Bits.{bit}
-use Rattle.tasks.specs.Meaning.{Meaning, Lawful, value}
+use Rattle.tasks.specs.Meaning.{Meaning, Lawful}
 use Rattle.tasks.specs.States.{packed, put, Meets, Applies, after, Reaches, start_state, state_at}
 use Rattle.filter.specs.Structures.{Structure}
 use Rattle.filter.specs.Rules.{stage, Settled}

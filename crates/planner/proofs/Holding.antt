@@ -1,5 +1,5 @@
 -- A search that was opened with a bound keeps it, and a plan that stands has no more actions.
-use Rattle.std.proofs.Common.{◌≡◌, ℕ, zero, suc, ◌≤◌, Bool, true, false, eqb, List, [], ◌∷◌, length, Some, sym, refl, ap, ◌∙◌, subst, arith}
+use Rattle.std.proofs.Common.{◌≡◌, ℕ, zero, suc, ◌≤◌, Bool, true, false, eqb, List, [], ◌∷◌, length, Some, refl, ap, ◌∙◌, subst, arith}
 use Rattle.filter.proofs.Values.{never}
 use Rattle.tasks.specs.Meaning.{Meaning}
 use Rattle.filter.specs.Structures.{Structure}

@@ -1,12 +1,11 @@
 -- From what the calls on a search promise to what is judged of a task.
-use Rattle.std.proofs.Common.{◌≡◌, ℕ, ◌+◌, ◌≤◌, Bool, true, false, cond, ltb, List, length, take, Some, None, Ok, Err, Option, Result, sym, refl, ap, ◌∙◌, subst, arith}
+use Rattle.std.proofs.Common.{◌≡◌, ℕ, ◌+◌, ◌≤◌, Bool, true, false, cond, ltb, List, length, take, Some, None, Ok, Err, Result, sym, refl, ap, ◌∙◌, subst, arith}
 use Rattle.filter.proofs.Values.{never}
 use Rattle.std.proofs.lemmas.Bool.{ltb-true}
 use Rattle.tasks.specs.Meaning.{Meaning}
 use Rattle.tasks.specs.States.{Shortest, Solvable}
 use Rattle.memories.specs.Pairs.{Pairs}
 use Rattle.estimators.specs.Sound.{Sound}
-use Rattle.search.specs.declared.call.Call.{Call}
 use Rattle.search.specs.declared.call.Call.TheVariants as call
 use Rattle.search.specs.declared.refusal.Refusal.{Refusal}
 use Rattle.search.specs.Ceiling.{ceiling}

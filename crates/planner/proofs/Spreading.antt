@@ -2,8 +2,7 @@
 use Rattle.std.proofs.Common.{◌≡◌, ℕ, zero, suc, ◌+◌, ◌-◌, ◌*◌, ◌<◌, ◌≤◌, Bool, true, false, cond, ltb, List, [], ◌∷◌, ◌++◌, length, get_or, drop, replicate, ℤ, pos, Ok, Err, sym, refl, ap, ◌∙◌, mul-le-mul, arith}
 use lib.ListN.{length-replicate}
 use Rattle.std.proofs.lemmas.Bool.{ltb-true, cond-false, le-ltb, or_from}
-use Rattle.tasks.specs.Meaning.{Meaning}
-use Rattle.tasks.specs.Tables.{Limits, from, one, two, table_task}
+use Rattle.tasks.specs.Tables.{Limits, from, two, table_task}
 use Rattle.sheet.specs.Actions.{checked}
 use Rattle.sheet.specs.Bodies.{spread}
 use Rattle.sheet.specs.Sheet.{Read, ReadInto, Tables, tables_of, written, short, reading, sized}

@@ -2,13 +2,13 @@
 -- so passing over them changes nothing. Of two actions or more, either half has one.
 use Rattle.std.proofs.Common.{◌≡◌, ℕ, zero, suc, ◌+◌, ◌-◌, ◌^◌, ◌<◌, ◌≤◌, Bool, true, false, cond, not, ◌&&◌, ◌||◌, eqb, ltb, leb, ◌⊎◌, Some, None, Option, sym, refl, ap, ◌∙◌, subst, ap₂, inl, inr, arith}
 use mathlib.Core.Path.{fun_ext}
-use Rattle.std.proofs.lemmas.Bool.{and_from, and_left, and_parts, and_right, both_ways, cases_Bool, cases_eq, cases_lt, eq-eqb, eqb-true, false≢true, le-leb, leb-true, lt-ltb, ltb-true, ne_eqb, not_from_false, not-true}
+use Rattle.std.proofs.lemmas.Bool.{and_from, and_left, and_parts, and_right, both_ways, cases_Bool, cases_eq, cases_lt, eq-eqb, le-leb, leb-true, lt-ltb, ltb-true, ne_eqb, not_from_false, not-true}
 use Rattle.sets.specs.Counts.{Empty, Lowest, Popped, count}
 use Rattle.sets.specs.Sets.{among, has, holds}
 use Rattle.sets.specs.Signs.{says}
 use Rattle.sets.specs.declared.actions.ActionSet.{ActionSet}
 use Rattle.sets.specs.declared.facts.FactSet.{FactSet}
-use Rattle.sets.proofs.Counting.{count_drop, count_ext}
+use Rattle.sets.proofs.Counting.{count_ext}
 use Rattle.sets.proofs.Membership.{action_below}
 use Rattle.tasks.specs.Meaning.{Meaning}
 use Rattle.estimators.specs.Tallies.{count_cut}
@@ -17,7 +17,7 @@ use Rattle.filter.specs.Parts.{level_at, step_at, structure}
 use Rattle.filter.specs.Structures.{Structure}
 use Rattle.filter.proofs.Uniqueness.{both_follow}
 use Rattle.search.specs.Parts.{OfTask}
-use Rattle.search.specs.Steps.{best_below, better, distance, falsifies, first_half, lowest, lowest_from, wide}
+use Rattle.search.specs.Steps.{best_below, better, distance, falsifies, first_half, lowest, lowest_from}
 
 -- The lowest member
 

@@ -1,17 +1,17 @@
 -- What one step makes of what the filter left, case by case: every step has one action, or a level up to the first step with a
 -- choice is hopeless, or that step is split.
-use Rattle.std.proofs.Common.{◌≡◌, ℕ, ◌+◌, ◌-◌, ◌<◌, Bool, true, false, cond, eqb, List, [], ◌∷◌, Some, None, Option, sym, refl, ap, ◌∙◌, ap₂, arith}
+use Rattle.std.proofs.Common.{◌≡◌, ℕ, ◌+◌, ◌-◌, ◌<◌, Bool, true, false, cond, eqb, List, [], ◌∷◌, Some, None, Option, sym, refl, ap, ◌∙◌, arith}
 use Rattle.std.proofs.lemmas.Bool.{eq-eqb, false≢true, ne_eqb}
 use Rattle.tasks.specs.Meaning.{Meaning}
 use Rattle.filter.specs.Structures.{Structure}
 use Rattle.filter.specs.Filtering.{Filtered, Largest}
 use Rattle.filter.specs.Filtering.Filtered.{kept, wiped}
-use Rattle.search.specs.declared.fate.Fate.TheVariants.{Dropped, Found, Split}
+use Rattle.search.specs.declared.fate.Fate.TheVariants.{Dropped, Split}
 use Rattle.search.specs.declared.fate.Halves.{Halves}
-use Rattle.search.specs.Machines.{Entry, Machine, Made}
+use Rattle.search.specs.Machines.{Entry}
 use Rattle.search.specs.Machines.Entry.{part, pair}
 use Rattle.search.specs.Machines.Stage.{found, unfinished}
-use Rattle.search.specs.Steps.{asked, below_halves, best_below, earlier, first_half, looked, lowest, next, plan_from, settle, some_below, split, told, wide}
+use Rattle.search.specs.Steps.{asked, below_halves, earlier, looked, lowest, next, plan_from, some_below, split, told, wide}
 use Rattle.search.specs.Fates.{Halved, effect}
 use Rattle.search.proofs.Telling.{told_same}
 

@@ -1,13 +1,11 @@
 -- A list of calls on a blank search is a run, and what then stands keeps the law in words of the calls and the answers.
-use Rattle.std.proofs.Common.{◌≡◌, ℕ, ◌+◌, ◌<◌, ◌≤◌, Bool, true, false, cond, List, [], ◌∷◌, ◌++◌, length, get_or, take, Ok, Err, Result, sym, refl, ap, ◌∙◌, subst, arith, take_all}
+use Rattle.std.proofs.Common.{◌≡◌, ℕ, ◌+◌, ◌<◌, ◌≤◌, Bool, true, false, cond, List, [], ◌∷◌, ◌++◌, length, get_or, take, Ok, Err, Result, sym, refl, ◌∙◌, subst, arith, take_all}
 use Rattle.std.proofs.lemmas.List.{take_more}
-use Rattle.std.proofs.lemmas.Bool.{false≢true}
 use Rattle.tasks.specs.Meaning.{Lawful, Meaning}
 use Rattle.filter.proofs.Values.{never}
 use Rattle.memories.specs.Pairs.{Emptied, Kept, Pairs, recalls}
 use Rattle.estimators.specs.Sound.{Sound}
 use Rattle.search.specs.declared.answer.Answer.{Answer}
-use Rattle.search.specs.declared.answer.Answer.TheVariants.{Stands}
 use Rattle.search.specs.declared.call.Call.TheVariants as call
 use Rattle.search.specs.declared.refusal.Refusal.{Refusal}
 use Rattle.search.specs.declared.request.Request.{Request}
@@ -18,7 +16,7 @@ use Rattle.search.specs.Machines.Stage.{blank, none}
 use Rattle.search.specs.Played.{Called, Calls, Tally, accepted, counting, done, made, tally, untouched}
 use Rattle.search.specs.Played.Calls.{no_call, one_call}
 use Rattle.search.specs.Runs.{Run}
-use Rattle.search.specs.Runs.Run.{advances, asks, begins, lifts, opens, opens_not, plans}
+use Rattle.search.specs.Runs.Run.{advances, begins, lifts, opens}
 use Rattle.search.proofs.Forgetting.{forget_advancing, forget_opening}
 use Rattle.search.proofs.Holding.{Begun, put_up_begun, steps_hold}
 use Rattle.search.proofs.Running.{blank_refuses, lift_allowed}

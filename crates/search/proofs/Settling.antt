@@ -3,7 +3,7 @@
 use Rattle.std.proofs.Common.{◌≡◌, ℕ, eqb, List, [], ◌∷◌, ◌++◌, sym, refl, ap, ◌∙◌, append-nil, arith}
 use Rattle.tasks.specs.Meaning.{Meaning}
 use Rattle.search.specs.declared.entry.Entry as stored
-use Rattle.search.specs.Machines.{Entry, Machine, Made}
+use Rattle.search.specs.Machines.{Entry}
 use Rattle.search.specs.Machines.Entry.{part, pair}
 use Rattle.search.specs.Machines.Stage.{unfinished}
 use Rattle.search.specs.Applied.{left_of_round}

@@ -1,5 +1,5 @@
 -- One step, from the fate of the newest part: it is a step of the machine, and what a search keeps up stays so.
-use Rattle.std.proofs.Common.{◌≡◌, ℕ, ◌+◌, ◌-◌, ◌*◌, ◌<◌, ◌≤◌, Bool, true, false, List, [], ◌∷◌, length, Option, sym, refl, ap, ◌∙◌, subst, arith}
+use Rattle.std.proofs.Common.{◌≡◌, ℕ, ◌≤◌, Bool, List, [], ◌∷◌, length, Option, sym, ap, ◌∙◌, subst, arith}
 use mathlib.Core.HLevel.{Unit-prop}
 use mathlib.Core.Logic.{∥∥₁_elim, ∥∥₁_map}
 use native.Mathlib.Bridge.{le_prop}
@@ -8,7 +8,7 @@ use Rattle.filter.specs.Structures.{Structure}
 use Rattle.filter.specs.Filtering.{Filtered}
 use Rattle.filter.specs.Filtering.Filtered.{kept, wiped}
 use Rattle.search.specs.declared.fate.Fate.{Fate}
-use Rattle.search.specs.Machines.{Entry, Machine, Made, Stage}
+use Rattle.search.specs.Machines.{Entry, Machine, Stage}
 use Rattle.search.specs.Machines.Entry.{part, pair}
 use Rattle.search.specs.Machines.Stage.{blank, unfinished}
 use Rattle.search.specs.Depths.{Shallow, Topped}

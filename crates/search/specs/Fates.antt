@@ -8,7 +8,7 @@ use Rattle.filter.specs.Plans.{state_of}
 use Rattle.search.specs.declared.fate.Fate.{Fate}
 use Rattle.search.specs.declared.fate.Fate.TheVariants.{Dropped, Found, Split}
 use Rattle.search.specs.declared.fate.Halves.{Halves}
-use Rattle.search.specs.Machines.{Entry, Machine, Made}
+use Rattle.search.specs.Machines.{Entry, Made}
 use Rattle.search.specs.Machines.Entry.{part, pair}
 use Rattle.search.specs.Machines.Stage.{unfinished, found}
 use Rattle.search.specs.Steps.{best_below, earlier, first_half, half, next, settle}

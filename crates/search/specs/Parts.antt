@@ -1,5 +1,5 @@
 -- Parts of a task, and plans, as they are stored.
-use Rattle.std.specs.Prelude.{◌≡◌, ℕ, ◌≤◌, List, take}
+use Rattle.std.specs.Prelude.{◌≡◌, ℕ, List, take}
 use Rattle.tasks.specs.Meaning.{Meaning, Lawful}
 use Rattle.filter.specs.declared.part.Part.{Part}
 use Rattle.filter.specs.Parts.{structure}

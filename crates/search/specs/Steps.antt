@@ -6,7 +6,7 @@ use Rattle.tasks.specs.Meaning.{Meaning}
 use Rattle.filter.specs.Structures.{Structure}
 use Rattle.filter.specs.Filtering.{Filtered}
 use Rattle.filter.specs.Plans.{state_of}
-use Rattle.search.specs.Machines.{Entry, Stage, Machine, Made}
+use Rattle.search.specs.Machines.{Entry, Machine, Made}
 use Rattle.search.specs.Machines.Entry.{part, pair}
 use Rattle.search.specs.Machines.Stage.{unfinished, found, none}
 

@@ -1,18 +1,17 @@
 -- Tables of rows that are filled action by action: after the actions below n the table names their numbers, and the
 -- rows from n on are idle. The facts that masks keep follow from the numbers of a lawful task.
-use Rattle.std.proofs.Common.{◌≡◌, ℕ, zero, suc, ◌+◌, ◌<◌, ◌≤◌, Bool, true, false, cond, ◌&&◌, ltb, ◌≢◌, ◌⊎◌, List, length, get_or, set, ℤ, pos, negsuc, sym, refl, ap, ◌∙◌, inl, inr, arith}
-use Rattle.std.proofs.lemmas.List.{get_or-set_same, get_or-set_other, get_or_past}
-use Rattle.std.proofs.lemmas.Bool.{both_ways, cases_eq, cases_lt, cond-true, cond-false, false≢true, le-ltb, lt-ltb}
+use Rattle.std.proofs.Common.{◌≡◌, ℕ, zero, suc, ◌+◌, ◌<◌, ◌≤◌, Bool, true, false, ◌≢◌, List, length, set, ℤ, pos, negsuc, sym, refl, ap, ◌∙◌, inl, inr, arith}
+use Rattle.std.proofs.lemmas.List.{get_or-set_same, get_or-set_other}
+use Rattle.std.proofs.lemmas.Bool.{cases_eq, cases_lt, false≢true}
 use Rattle.sets.specs.Sets.{has}
 use Rattle.sets.specs.Signs.{says}
 use Rattle.sets.specs.declared.literals.Literals.{Literals}
 use Rattle.sets.proofs.BitLaws.{bit_zero}
 use Rattle.tasks.specs.declared.row.Row.{Row}
 use Rattle.tasks.specs.Filled.{Filled}
-use Rattle.tasks.specs.Masks.{Own, idle, makes_at, needs_at, row_at}
+use Rattle.tasks.specs.Masks.{idle, makes_at, needs_at, row_at}
 use Rattle.tasks.specs.Meaning.{Meaning, Lawful}
-use Rattle.tasks.specs.Rows.{Names, Single, Under, cell}
-use Rattle.tasks.specs.Masking.{cell_none}
+use Rattle.tasks.specs.Rows.{Names, Single, Under}
 
 pub nothing_has : (f : ℕ) (v : Bool) → has (record { trues = 0; falses = 0 }) f v ≡ false
 unfolding has

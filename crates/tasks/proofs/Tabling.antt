@@ -1,5 +1,5 @@
 -- Tables within their limits and ranges mean a lawful task.
-use Rattle.std.proofs.Common.{◌≡◌, ℕ, zero, suc, ◌+◌, ◌*◌, ◌<◌, ◌≤◌, Bool, true, false, cond, ltb, List, get_or, ℤ, pos, negsuc, nat_abs, sym, refl, ap, ◌∙◌, zero-add, arith, lit≤}
+use Rattle.std.proofs.Common.{◌≡◌, ℕ, zero, suc, ◌+◌, ◌*◌, ◌<◌, ◌≤◌, true, false, ltb, List, get_or, ℤ, pos, negsuc, refl, zero-add, arith, lit≤}
 use Rattle.std.proofs.lemmas.Nat.{mul-add-lt}
 use Rattle.std.proofs.lemmas.Bool.{cond_both, cond-true, cond-false, ltb-true, le-ltb, lt-ltb}
 use Rattle.sets.specs.Signs.{says}

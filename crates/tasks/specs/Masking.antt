@@ -1,7 +1,7 @@
 -- Masks are a lawful task: a set of literals has one number for each fact, and it is 0 where the set has no literal.
-use Rattle.std.specs.Prelude.{◌≡◌, ℕ, ◌<◌, ◌≤◌, Bool, true, false, cond, not, ◌⊎◌, ℤ, pos, negsuc, ◌≢◌, nat_lt, refl}
-use Rattle.std.proofs.Common.{sym, ap, ◌∙◌, inl, inr, arith, lit≤}
-use Rattle.std.proofs.lemmas.Bool.{both_ways, cases_Bool, cases_lt, cond-false, le-ltb}
+use Rattle.std.specs.Prelude.{◌≡◌, ℕ, ◌≤◌, Bool, true, false, cond, ℤ, pos, negsuc, ◌≢◌, nat_lt, refl}
+use Rattle.std.proofs.Common.{◌∙◌, inl, inr, arith, lit≤}
+use Rattle.std.proofs.lemmas.Bool.{cases_Bool, cond-false, le-ltb}
 use Rattle.sets.specs.Sets.{has, among}
 use Rattle.sets.specs.Bits.{bit}
 use Rattle.sets.specs.Signs.{says}

@@ -1,5 +1,5 @@
 -- A task that starts from what was seen. A literal is plus or minus the fact's number and one.
-use Rattle.std.specs.Prelude.{◌≡◌, ℕ, ◌+◌, ◌<◌, ◌≤◌, Bool, true, false, cond, ◌&&◌, ◌||◌, List, [], ◌∷◌, length, ℤ, pos, ◌==◌, ◌≢◌, nat_lt, slice_index_or, unsigned_abs}
+use Rattle.std.specs.Prelude.{◌≡◌, ℕ, ◌+◌, ◌<◌, ◌≤◌, Bool, false, cond, ◌&&◌, ◌||◌, List, [], ◌∷◌, length, ℤ, pos, ◌==◌, ◌≢◌, nat_lt, slice_index_or, unsigned_abs}
 use Rattle.sets.specs.Sets.{has}
 use Rattle.sets.specs.Signs.{says}
 use Rattle.sets.specs.declared.literals.Literals.{Literals}

@@ -1,5 +1,5 @@
 -- Each row is computed: the run of its steps, a count or a recall.
-use Rattle.std.proofs.Common.{◌≡◌, ℕ, Bool, true, List, [], ◌∷◌, refl, ap, ◌∙◌}
+use Rattle.std.proofs.Common.{ℕ, List, [], ◌∷◌, refl, ap}
 use Rattle.sets.specs.Bits.{bit}
 use Rattle.sets.specs.Counts.{count}
 use Rattle.tasks.specs.States.{packed}

@@ -1,4 +1,4 @@
-use Rattle.std.proofs.Common.{◌≡◌, ℕ, suc, ◌+◌, ◌-◌, ◌<◌, true, false, List, [], ◌∷◌, length, sym, refl, ap, ◌∙◌, subst, arith, rules}
+use Rattle.std.proofs.Common.{◌≡◌, ℕ, suc, ◌+◌, ◌-◌, ◌<◌, true, List, ◌∷◌, length, sym, ap, ◌∙◌, subst, arith, rules}
 use Rattle.std.proofs.lemmas.Bool.Decides.{not_from_Decides}
 use Rattle.tasks.specs.Masked.{masked}
 use Rattle.tasks.specs.States.{Reaches, after}
@@ -7,7 +7,7 @@ use Rattle.exhaustive.specs.Sequences.{applicable, sequences}
 use Rattle.exhaustive.specs.Tried.{TriedAll, NoneReaches}
 use Rattle.exhaustive.proofs.Applicable.{is_applicable}
 use Rattle.exhaustive.proofs.Lengths.{same_number, none_moved}
-use Rattle.exhaustive.proofs.Passing.{Passed, none_yet, not_applying, missing_here, none_reaches, all_paid, too_many}
+use Rattle.exhaustive.proofs.Passing.{Passed, not_applying, missing_here, none_reaches, all_paid, too_many}
 use Rattle.exhaustive.proofs.Rests.{is_nil, first_set, rest_same, length_rest}
 use Rattle.exhaustive.proofs.extend.+extend.Goals.{then-applies+in-Missing, else-applies}
 use Rattle.exhaustive.proofs.extend.+extend.Goals as goal

@@ -1,10 +1,8 @@
-use Rattle.std.proofs.Common.{◌≡◌, ℕ, ◌+◌, ◌-◌, ◌<◌, ◌≤◌, List, ◌++◌, length, take, drop, sym, refl, ap, ◌∙◌, subst, arith, length-take-le, rules}
+use Rattle.std.proofs.Common.{◌≡◌, ℕ, ◌+◌, ◌-◌, ◌<◌, ◌≤◌, List, ◌++◌, length, take, drop, sym, ap, ◌∙◌, subst, arith, length-take-le}
 use borrow.Rule.Slice.PartMut.{post_of}
 use Rattle.tasks.specs.Masked.{masked}
 use Rattle.tasks.specs.States.{Reaches, Shortest, start_state}
-use Rattle.exhaustive.specs.Sequences.{sequences}
-use Rattle.exhaustive.specs.Tried.{NoneReaches}
-use Rattle.exhaustive.proofs.Lengths.{Covered, none_covered, one_more, is_shortest, not_solvable, is_paid, is_spent, same_number, none_moved}
+use Rattle.exhaustive.proofs.Lengths.{Covered, one_more, is_shortest, not_solvable, is_paid, is_spent, same_number, none_moved}
 use Rattle.exhaustive.proofs.Rests.{front_written, back_same, front_same}
 use Rattle.exhaustive.proofs.plan.by_length.Goals.{In-Missing}
 use Rattle.exhaustive.proofs.plan.by_length.Goals as goal

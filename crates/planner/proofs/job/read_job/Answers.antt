@@ -1,4 +1,4 @@
-use Rattle.std.proofs.Common.{◌≡◌, replicate, pos, ap, ◌∙◌, arith}
+use Rattle.std.proofs.Common.{replicate, pos, ap, ◌∙◌, arith}
 use Rattle.tasks.specs.Tables.{table_task}
 use Rattle.sheet.specs.declared.counts.Counts.{Counts}
 use Rattle.sheet.specs.Sheet.{Tables, tables_of}

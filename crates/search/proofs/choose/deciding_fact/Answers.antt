@@ -1,4 +1,3 @@
-use Rattle.std.proofs.Common.{◌≡◌, sym, refl, ap, ◌∙◌, arith}
 use Rattle.tasks.specs.Masked.{masked}
 use Rattle.search.proofs.Choosing.{begun, gone_on, all_weighed}
 use Rattle.search.proofs.choose.deciding_fact.Goals as goal

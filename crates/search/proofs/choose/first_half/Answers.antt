@@ -1,4 +1,3 @@
-use Rattle.std.proofs.Common.{◌≡◌, sym, refl, ap, ◌∙◌, arith}
 use Rattle.tasks.specs.Masked.{masked}
 use Rattle.search.proofs.Choosing.{removers_first, lowest_first}
 use Rattle.search.proofs.choose.first_half.Goals as goal

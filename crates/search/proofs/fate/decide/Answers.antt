@@ -1,4 +1,4 @@
-use Rattle.std.proofs.Common.{◌≡◌, ◌≤◌, Bool, true, false, sym, refl, ap, ◌∙◌, subst, arith}
+use Rattle.std.proofs.Common.{Bool, true, false, ap, subst, arith}
 use Rattle.filter.specs.Calls.{stands}
 use Rattle.filter.specs.Filtering.{Filtered}
 use Rattle.filter.specs.Parts.{structure}

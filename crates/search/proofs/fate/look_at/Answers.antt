@@ -1,8 +1,7 @@
-use Rattle.std.proofs.Common.{◌≡◌, ◌<◌, ◌≤◌, true, [], sym, refl, ap, ◌∙◌, arith}
+use Rattle.std.proofs.Common.{◌≡◌, ◌<◌, [], sym, ap, ◌∙◌, arith}
 use Rattle.filter.specs.Parts.{structure}
 use Rattle.memories.specs.Pairs.{recalls}
 use Rattle.tasks.specs.Masked.{masked}
-use Rattle.search.specs.Machines.{Made}
 use Rattle.search.specs.Machines.Stage.{found}
 use Rattle.search.specs.Steps.{lowest, wide}
 use Rattle.search.proofs.Deciding.{next_dropped, next_found, next_split}

@@ -1,4 +1,4 @@
-use Rattle.std.proofs.Common.{◌≡◌, Bool, true, false, not, ◌&&◌, sym, refl, ap, ◌∙◌, ap₂}
+use Rattle.std.proofs.Common.{◌≡◌, Bool, true, false, not, ◌&&◌, refl, ap, ◌∙◌}
 use Rattle.sets.specs.Sets.{among}
 use Rattle.filter.specs.Parts.{step_at, structure}
 use Rattle.tasks.specs.Masked.{masked}

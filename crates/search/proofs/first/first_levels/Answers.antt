@@ -1,4 +1,4 @@
-use Rattle.std.proofs.Common.{◌≡◌, ℕ, ◌≤◌, min, not, ◌&&◌, ltb, sym, refl, ap, ◌∙◌, arith, rules}
+use Rattle.std.proofs.Common.{◌≡◌, ℕ, ◌≤◌, min, not, ◌&&◌, ltb, refl, ap, ◌∙◌, arith, rules}
 use Rattle.sets.specs.Bits.{bit}
 use Rattle.sets.specs.Signs.{is}
 use Rattle.tasks.specs.Masked.{masked}

@@ -1,4 +1,4 @@
-use Rattle.std.proofs.Common.{◌≡◌, ◌<◌, false, sym, ◌∙◌, arith, below_more}
+use Rattle.std.proofs.Common.{◌≡◌, false, sym, ◌∙◌, arith, below_more}
 use Rattle.filter.specs.Parts.{structure}
 use Rattle.search.specs.Steps.{wide}
 use Rattle.search.proofs.Scanning.{lowest_is, lowest_none}

@@ -1,4 +1,4 @@
-use Rattle.std.proofs.Common.{◌≡◌, ℕ, ◌+◌, ◌<◌, ◌≢◌, length, get_or, take, set, sym, refl, ap, ◌∙◌, ap₂, arith, length-set, below_more}
+use Rattle.std.proofs.Common.{◌≡◌, ℕ, ◌+◌, ◌<◌, ◌≢◌, length, get_or, take, set, ap, ◌∙◌, ap₂, arith, length-set, below_more}
 use Rattle.std.proofs.lemmas.List.{get_or-set_other, get_or-set_same}
 use Rattle.filter.specs.Parts.{structure}
 use Rattle.search.specs.Steps.{lowest}

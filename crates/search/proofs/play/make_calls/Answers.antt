@@ -1,4 +1,4 @@
-use Rattle.std.proofs.Common.{◌≡◌, vec_items, sym, refl, ◌∙◌, add-zero, arith}
+use Rattle.std.proofs.Common.{vec_items, refl, arith}
 use Rattle.memories.specs.Pairs.{recalls}
 use Rattle.tasks.specs.Bundle.{meaning}
 use Rattle.search.specs.Stepped.{machine_of}

@@ -1,5 +1,4 @@
-use Rattle.std.proofs.Common.{◌≡◌, ℕ, List, vec_items, sym, subst, arith}
-use Rattle.memories.specs.Pairs.{recalls}
+use Rattle.std.proofs.Common.{vec_items, sym, subst}
 use Rattle.tasks.specs.Bundle.{meaning}
 use Rattle.search.specs.declared.verdict.Verdict.{Verdict}
 use Rattle.search.specs.Played.{StandsLawfully, tally, untouched}

@@ -1,4 +1,4 @@
-use Rattle.std.proofs.Common.{◌≡◌, ℕ, List, [], ◌∷◌, ◌++◌, vec_items, sym, refl, ap, ◌∙◌, subst, append-nil}
+use Rattle.std.proofs.Common.{ℕ, List, [], ◌∷◌, ◌++◌, vec_items, sym, refl, ap, ◌∙◌, subst, append-nil}
 use Rattle.search.specs.Calls.{Keeps}
 use Rattle.search.specs.Calls.Keeps.{no_pair}
 use Rattle.search.specs.Entries.{below_pairs, entries_of, pairs_on_top}

@@ -1,4 +1,4 @@
-use Rattle.std.proofs.Common.{◌≡◌, ℕ, ◌<◌, Bool, ◌&&◌, ◌||◌, eqb, ltb, length, get_or, take, sym, ap, ◌∙◌, arith, take_all, below_more}
+use Rattle.std.proofs.Common.{◌<◌, ◌&&◌, ◌||◌, eqb, length, get_or, take, sym, ap, ◌∙◌, arith, take_all, below_more}
 use Rattle.std.proofs.lemmas.Bool.{lt-ltb}
 use Rattle.sets.specs.Sets.{among}
 use Rattle.tasks.specs.Bans.{listed}

@@ -1,4 +1,4 @@
-use Rattle.std.proofs.Common.{◌≡◌, ◌+◌, ◌<◌, ltb, get_or, pos, sym, ◌∙◌, arith, w8, SFits, rules}
+use Rattle.std.proofs.Common.{◌+◌, ◌<◌, ltb, get_or, pos, sym, ◌∙◌, arith, w8, SFits, rules}
 use Rattle.std.proofs.lemmas.Int.{to_z-of_z}
 use Rattle.std.proofs.lemmas.Bool.{cond-true, cond-false, lt-ltb, le-ltb}
 use Rattle.tasks.specs.Tables.{from}

@@ -1,4 +1,4 @@
-use Rattle.std.proofs.Common.{◌≡◌, ℕ, ◌<◌, Bool, length, get_or, ℤ, pos, sym, refl, ap, ◌∙◌, subst, arith, take_all, w8, SFits, rules}
+use Rattle.std.proofs.Common.{◌<◌, length, get_or, ℤ, pos, ap, ◌∙◌, subst, arith, take_all, w8, SFits, rules}
 use Rattle.std.proofs.lemmas.Int.{to_z-of_z}
 use Rattle.tasks.specs.Restarts.{Fresh, Joined, seen}
 use Rattle.tasks.proofs.Seeing.{read_more, not_fresh}

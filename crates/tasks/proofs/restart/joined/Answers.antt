@@ -1,4 +1,4 @@
-use Rattle.std.proofs.Common.{◌≡◌, ◌+◌, ◌≤◌, true, neg_ℤ, nat_abs, sym, ap, ◌∙◌, inl, inr, arith, w8, SFits, rules}
+use Rattle.std.proofs.Common.{◌≡◌, ◌+◌, ◌≤◌, true, nat_abs, sym, ap, ◌∙◌, inl, inr, arith, w8, SFits, rules}
 use Rattle.std.proofs.lemmas.Int.{to_z-of_z}
 use Rattle.std.proofs.lemmas.Bool.{both_ways}
 use Rattle.sets.specs.Sets.{has}

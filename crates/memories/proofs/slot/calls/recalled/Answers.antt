@@ -1,5 +1,4 @@
 use Rattle.std.proofs.Common.{sym, rules}
-use Rattle.memories.specs.Slots.{taken}
 use Rattle.memories.specs.Slotting.{recalls_vacant, recalls_taken, recalls_other}
 use Rattle.memories.proofs.slot.calls.recalled.Goals as goal
 

@@ -1,4 +1,4 @@
-use Rattle.std.proofs.Common.{◌≡◌, ℕ, Ok, sym, refl, ap, ◌∙◌, subst}
+use Rattle.std.proofs.Common.{Ok, sym, refl, subst}
 use Rattle.memories.specs.Pairs.{recalls}
 use Rattle.tasks.specs.Bundle.{meaning}
 use Rattle.tasks.specs.Meaning.{Meaning}

@@ -1,4 +1,4 @@
-use Rattle.std.proofs.Common.{◌≡◌, ◌+◌, sym, subst, arith}
+use Rattle.std.proofs.Common.{◌+◌, sym, subst, arith}
 use Rattle.memories.specs.Pairs.{recalls}
 use Rattle.tasks.specs.Masked.{masked}
 use Rattle.search.specs.Calls.{Steps}

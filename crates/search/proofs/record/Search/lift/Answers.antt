@@ -1,4 +1,4 @@
-use Rattle.std.proofs.Common.{◌≡◌, ◌+◌, Ok, sym, ap, ◌∙◌}
+use Rattle.std.proofs.Common.{◌+◌, Ok, sym, ap, ◌∙◌}
 use Rattle.tasks.specs.Bundle.{meaning}
 use Rattle.tasks.specs.Meaning.{Meaning}
 use Rattle.search.specs.Calls.{Lifted}

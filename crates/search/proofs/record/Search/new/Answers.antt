@@ -1,5 +1,4 @@
-use Rattle.std.proofs.Common.{◌≡◌, ◌≤◌, List, vec_items, sym, ap, subst, arith}
-use Rattle.search.specs.declared.entry.Entry as stored
+use Rattle.std.proofs.Common.{List, sym, ap, subst, arith}
 use Rattle.search.specs.Entries.{entries_of}
 use Rattle.search.specs.Machines.{Entry}
 use Rattle.search.specs.Machines.Stage.{blank}

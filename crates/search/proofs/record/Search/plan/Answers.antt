@@ -1,4 +1,4 @@
-use Rattle.std.proofs.Common.{◌≡◌, ℕ, ◌≤◌, List, ◌++◌, length, take, drop, Ok, sym, refl, ap, ◌∙◌, subst, arith, length-take-le}
+use Rattle.std.proofs.Common.{◌≡◌, ℕ, ◌++◌, length, drop, Ok, sym, ap, ◌∙◌, arith, length-take-le}
 use Rattle.search.specs.declared.stage.Stage as stored
 use Rattle.search.specs.Calls.{Planned}
 use Rattle.search.specs.Parts.{actions_of}

@@ -1,10 +1,9 @@
-use Rattle.std.proofs.Common.{◌≡◌, ℕ, ◌≤◌, List, [], ◌∷◌, ◌++◌, None, vec_items, sym, refl, ap, ◌∙◌, arith}
+use Rattle.std.proofs.Common.{List, [], ◌∷◌, ◌++◌, None, vec_items, refl, ap, ◌∙◌, arith}
 use Rattle.filter.specs.Structures.{Structure}
 use Rattle.tasks.specs.Masked.{masked}
 use Rattle.search.specs.declared.entry.Entry as stored
 use Rattle.search.specs.declared.entry.Entry.TheVariants.{Open}
 use Rattle.search.specs.Entries.{entries_of}
-use Rattle.search.specs.Machines.{Entry}
 use Rattle.search.specs.Machines.Entry.{part}
 use Rattle.search.specs.Machines.Stage.{unfinished}
 use Rattle.search.specs.Steps.{put_up}

@@ -1,4 +1,4 @@
-use Rattle.std.proofs.Common.{◌≡◌, ℕ, ◌≤◌, ◌∷◌, vec_items, sym, refl, ap, ◌∙◌, subst, arith}
+use Rattle.std.proofs.Common.{ℕ, vec_items, sym, ◌∙◌, subst, arith}
 use Rattle.filter.specs.Parts.{structure}
 use Rattle.memories.specs.Pairs.{recalls}
 use Rattle.tasks.specs.Masked.{masked}

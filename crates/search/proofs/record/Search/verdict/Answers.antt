@@ -1,4 +1,4 @@
-use Rattle.std.proofs.Common.{◌≡◌, sym, refl, ap, ◌∙◌}
+use Rattle.std.proofs.Common.{sym, ap, ◌∙◌}
 use Rattle.search.specs.declared.stage.Stage as stored
 use Rattle.search.specs.declared.verdict.Verdict.TheVariants.{Found}
 use Rattle.search.specs.Runs.{verdict_of}

@@ -1,4 +1,4 @@
-use Rattle.std.proofs.Common.{◌≡◌, List, [], ◌∷◌, ◌++◌, vec_items, sym, refl, ap, ◌∙◌, subst}
+use Rattle.std.proofs.Common.{List, [], ◌∷◌, ◌++◌, vec_items, ap, ◌∙◌, subst}
 use Rattle.search.specs.declared.entry.Entry as stored
 use Rattle.search.specs.declared.entry.Entry.TheVariants.{Open, Pending}
 use Rattle.search.specs.Depths.{Topped}

@@ -1,4 +1,4 @@
-use Rattle.std.proofs.Common.{ℕ, true, sym, ap, subst}
+use Rattle.std.proofs.Common.{ℕ, true, ap, subst}
 use mathlib.Core.Path.{fun_ext}
 use Rattle.sets.specs.Sets.{has}
 use Rattle.tasks.specs.Bundle.{meaning}

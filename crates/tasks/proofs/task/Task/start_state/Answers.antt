@@ -1,4 +1,4 @@
-use Rattle.std.proofs.Common.{◌≡◌, ◌^◌, ◌<◌, ◌≤◌, false, ap, ◌∙◌, arith, rules}
+use Rattle.std.proofs.Common.{◌≡◌, false, ap, ◌∙◌, arith}
 use Rattle.tasks.specs.States.{packed, put}
 use Rattle.tasks.proofs.Gathering.{named_state}
 use Rattle.tasks.proofs.task.Task.start_state.Goals as goal
