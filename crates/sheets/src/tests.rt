@@ -90,17 +90,17 @@ fn a_report_is_refused_in_this_order(rt: HostRuntime) {
 fn a_verdict_is_written_and_later_bytes_stay(rt: HostRuntime) {
     let mut buffer = [7u8; 800];
     assert_eq!(rt; report(SWITCH, Verdict::None(30), b"", &mut buffer), Ok(8));
-    assert!(rt; &buffer[0..10] == b"none 30\n\x07\x07");
+    assert!(rt; &buffer[0..10] == b"none 30\n\x07\x07".as_slice());
     assert_eq!(rt;
         report(SWITCH, Verdict::Unfinished, b"", &mut buffer),
         Ok(11)
     );
-    assert!(rt; &buffer[0..12] == b"unfinished\n\x07");
+    assert!(rt; &buffer[0..12] == b"unfinished\n\x07".as_slice());
     assert_eq!(rt;
         report(SWITCH, Verdict::Found(2), &[1, 0, 9], &mut buffer),
         Ok(15)
     );
-    assert!(rt; &buffer[0..16] == b"found 2\noff\non\n\x07");
+    assert!(rt; &buffer[0..16] == b"found 2\noff\non\n\x07".as_slice());
 }
 
 #[test]
@@ -116,7 +116,7 @@ fn a_refusal_is_written_with_its_line(rt: HostRuntime) {
         ),
         Ok(19)
     );
-    assert!(rt; &buffer[0..20] == b"refused 7 line 120\n\x07");
+    assert!(rt; &buffer[0..20] == b"refused 7 line 120\n\x07".as_slice());
     let mut small = [7u8; 799];
     assert_eq!(rt;
         write_refusal(
@@ -132,7 +132,7 @@ fn a_refusal_is_written_with_its_line(rt: HostRuntime) {
 
 #[test]
 fn an_action_has_its_name(rt: HostRuntime) -> Result<(), Fail> {
-    assert!(rt; action_name(SWITCH, 1)? == b"off");
+    assert!(rt; action_name(SWITCH, 1)? == b"off".as_slice());
     assert_eq!(rt; action_name(SWITCH, 2).is_err(), true);
     Ok(())
 }
