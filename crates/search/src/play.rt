@@ -2,7 +2,7 @@
 ghost use Rattle.std.specs.Prelude.{◌≡◌, ◌+◌, ◌≤◌, [], ◌++◌, length, vec_len, vec_capacity};
 ghost use Rattle.memories.specs.Pairs.{recalls};
 ghost use Rattle.tasks.specs.Bundle.{meaning};
-ghost use Rattle.search.specs.Played.{Called, Calls, done as told-done, made as told-made, wrote as Told-Wrote};
+ghost use Rattle.search.specs.Played.{Called, Calls, done as told_done, made as told_made, wrote as told_wrote};
 ghost use Rattle.search.specs.Plays.{PlayedOut};
 ghost use Rattle.search.specs.Stepped.{machine_of};
 
@@ -107,7 +107,7 @@ fn make_call<T: Task, M: Memory, E: Estimator>(
 
 // The answer of an opening or a lift.
 fn done(res: Result<(), Refusal>) -> Answer
-    ensures { result ≡ told-done res }
+    ensures { result ≡ told_done res }
 {
     match res {
         Ok(()) => Answer::Done,
@@ -117,7 +117,7 @@ fn done(res: Result<(), Refusal>) -> Answer
 
 // The answer of an advance.
 fn made(res: Result<u32, Refusal>) -> Answer
-    ensures { result ≡ told-made res }
+    ensures { result ≡ told_made res }
 {
     match res {
         Ok(steps) => Answer::Made(steps),
@@ -127,7 +127,7 @@ fn made(res: Result<u32, Refusal>) -> Answer
 
 // The answer of a plan call.
 fn wrote(res: Result<usize, Refusal>) -> Answer
-    ensures { result ≡ Told-Wrote res }
+    ensures { result ≡ told_wrote res }
 {
     match res {
         Ok(bytes) => Answer::Wrote(bytes),

@@ -1,7 +1,7 @@
 -- The line of an action in a spelled sheet: after line 1 and the lines of the facts comes one line for each action, whose
 -- second word is its name.
 use Rattle.std.proofs.Common.{◌≡◌, ℕ, zero, suc, ◌+◌, ◌<◌, ◌≤◌, true, cond, ◌&&◌, ltb, leb, List, [], ◌∷◌, ◌++◌, length, get_or, drop, IfOk, Some, None, Ok, Err, decimal, Option, Result, sym, refl, ap, ◌∙◌, append_assoc, arith, Bor}
-use Rattle.std.specs.List.{flat_map, AllByRecursion as All}
+use Rattle.std.specs.List.{flat_map, AllByRecursion}
 use Rattle.std.proofs.ByRecursion.{All-get_or}
 use Rattle.std.proofs.lemmas.List.{get_or-drop}
 use Rattle.std.proofs.lemmas.Bool.{and_parts, leb-true, ltb-true, ltb-false, lt-ltb, le-ltb, cond-true, cond-false}
@@ -42,11 +42,11 @@ module _ (h : Head) where
       ap lines (append_assoc (line h (w ∷ [])) (flat_map (λ n. line h (n ∷ [])) ns) r)
       ∙ its_lines h (w ∷ []) (flat_map (λ n. line h (n ∷ [])) ns ++ r) (tight_name w e, tt)
 
-  past : (ns : List (List ℕ)) (r : List ℕ) → All (λ n. name n ≡ true) ns → drop (length ns) (lines (many ns ++ r)) ≡ lines r
+  past : (ns : List (List ℕ)) (r : List ℕ) → AllByRecursion (λ n. name n ≡ true) ns → drop (length ns) (lines (many ns ++ r)) ≡ lines r
   past [] r a = refl
   past (w ∷ ns) r a = ap (drop (suc (length ns))) (first_line w ns r a.0) ∙ past ns r a.1
 
-  nth : (ns : List (List ℕ)) (r : List ℕ) (a : ℕ) → a < length ns → All (λ n. name n ≡ true) ns → get_or (lines (many ns ++ r)) a [] ≡ unwords (text h ∷ get_or ns a [] ∷ [])
+  nth : (ns : List (List ℕ)) (r : List ℕ) (a : ℕ) → a < length ns → AllByRecursion (λ n. name n ≡ true) ns → get_or (lines (many ns ++ r)) a [] ≡ unwords (text h ∷ get_or ns a [] ∷ [])
   nth [] r a h' all = absurd (omega arith)
   nth (w ∷ ns) r zero h' all = ap (λ ls. get_or ls 0 []) (first_line w ns r all.0)
   nth (w ∷ ns) r (suc a) h' all = ap (λ ls. get_or ls (suc a) []) (first_line w ns r all.0) ∙ nth ns r a (omega arith) all.1
@@ -56,7 +56,7 @@ spelled_name v w a below =
     let F = length v.facts in
     let A = length v.acts in
     let ws = decimal F ∷ decimal A ∷ decimal v.bound ∷ [] in
-    let tight : All Tight ws = (tight_decimal F (omega (arith, w.facts_most)), (tight_decimal A (omega (arith, w.acts_most)), (tight_decimal v.bound (omega (arith, w.bound_most)), tt))) in
+    let tight : AllByRecursion Tight ws = (tight_decimal F (omega (arith, w.facts_most)), (tight_decimal A (omega (arith, w.acts_most)), (tight_decimal v.bound (omega (arith, w.bound_most)), tt))) in
     let R3 = line Bodies [] ++ (literals Start v.start ++ (literals Goal v.goal ++ flat_map (λ b. literals Needs b.needs ++ literals Makes b.makes) v.bodies)) in
     let R2 = flat_map (λ n. line Act (n ∷ [])) v.acts ++ R3 in
     let R1 = flat_map (λ n. line Fact (n ∷ [])) v.facts ++ R2 in

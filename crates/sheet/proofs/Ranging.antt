@@ -1,7 +1,7 @@
 -- The cells that a well-formed sheet gives are in their ranges: each is a literal's or 0, and none of the start is 0.
 use Rattle.std.proofs.Common.{◌≡◌, ℕ, zero, suc, ◌-◌, ◌*◌, ◌<◌, ◌≤◌, Bool, true, false, cond, eqb, List, [], ◌∷◌, ◌++◌, map, length, get_or, drop, replicate, ℤ, pos, negsuc, nat_abs, IfOk, Ok, Err, Result, sym, refl, ap, ◌∙◌, subst, arith, length-append, length-set}
 use lib.ListN.{length-replicate}
-use Rattle.std.specs.List.{flat_map, AllByRecursion as All}
+use Rattle.std.specs.List.{flat_map, AllByRecursion}
 use Rattle.std.proofs.lemmas.Nat.{mul-le}
 use Rattle.std.proofs.ByRecursion.{All-append, All-get_or, All-set}
 use Rattle.std.proofs.lemmas.List.{get_or_append_left, length-map}
@@ -27,11 +27,11 @@ cell_three : (b : Bool) → Three (cell b)
 cell_three true = omega arith
 cell_three false = omega arith
 
-zeros_three : (n : ℕ) → All Three (replicate n (pos 0))
+zeros_three : (n : ℕ) → AllByRecursion Three (replicate n (pos 0))
 zeros_three zero = tt
 zeros_three (suc n) = (omega arith, zeros_three n)
 
-puts_three : (row : List ℤ) (ls : List Literal) → All Three row → All Three (puts row ls)
+puts_three : (row : List ℤ) (ls : List Literal) → AllByRecursion Three row → AllByRecursion Three (puts row ls)
 puts_three row [] h = h
 puts_three row (l ∷ ls) h = puts_three (put row l) ls (All-set Three row l.fact (cell l.holds) (cell_three l.holds) h)
 
@@ -39,11 +39,11 @@ length_puts : (row : List ℤ) (ls : List Literal) → length (puts row ls) ≡ 
 length_puts row [] = refl
 length_puts row (l ∷ ls) = length_puts (put row l) ls ∙ length-set row l.fact (cell l.holds)
 
-joined_three : (f : Body → List ℤ) → ((b : Body) → All Three (f b)) → (bs : List Body) → All Three (flat_map f bs)
+joined_three : (f : Body → List ℤ) → ((b : Body) → AllByRecursion Three (f b)) → (bs : List Body) → AllByRecursion Three (flat_map f bs)
 joined_three f h [] = tt
 joined_three f h (b ∷ bs) = All-append Three (f b) (flat_map f bs) (h b) (joined_three f h bs)
 
-low_two : (row : List ℤ) → All Three row → All Two (map low row)
+low_two : (row : List ℤ) → AllByRecursion Three row → AllByRecursion Two (map low row)
 low_two [] h = tt
 low_two (z ∷ row) h = (by (eqb (nat_abs z) 0) refl, low_two row h.1)
   where
@@ -59,13 +59,13 @@ module _ (n : ℕ) (cells table : List ℤ) (i : ℕ) where
   spread_at : i < length all → get_or (spread n cells table) i (pos 0) ≡ get_or all i (pos 0)
   spread_at h = get_or_append_left all (drop n table) (pos 0) i h
 
-  spread_three : i < n → All Three cells → Three (get_or (spread n cells table) i (pos 0))
+  spread_three : i < n → AllByRecursion Three cells → Three (get_or (spread n cells table) i (pos 0))
   spread_three h a =
       let long : i < length all = omega (arith, length-append cells (replicate (n - length cells) (pos 0)), length-replicate (n - length cells) (pos 0)) in
       let small = All-get_or Three all i (pos 0) long (All-append Three cells (replicate (n - length cells) (pos 0)) a (zeros_three (n - length cells))) in
       omega (arith, small, ap nat_abs (spread_at long))
 
-  spread_two : i < length cells → All Two cells → Two (get_or (spread n cells table) i (pos 0))
+  spread_two : i < length cells → AllByRecursion Two cells → Two (get_or (spread n cells table) i (pos 0))
   spread_two h a =
       let long : i < length all = omega (arith, length-append cells (replicate (n - length cells) (pos 0))) in
       ap nat_abs (spread_at long ∙ get_or_append_left cells (replicate (n - length cells) (pos 0)) (pos 0) i h) ∙ All-get_or Two cells i (pos 0) h a
@@ -74,7 +74,7 @@ ranged_of : (v : JobSheet) → WellFormed v → (before : Tables) → Ranged (me
 ranged_of v w before =
     let F = length v.facts in
     let A = length v.acts in
-    let row : (ls : List Literal) → All Three (puts (zeros v) ls) = λ ls. puts_three (zeros v) ls (zeros_three F) in
+    let row : (ls : List Literal) → AllByRecursion Three (puts (zeros v) ls) = λ ls. puts_three (zeros v) ls (zeros_three F) in
     let most : A * F ≤ 128 * 64 = mul-le A F 128 64 w.acts_most w.facts_most in
     record {
       limits = (w.some, w.facts_most, w.acts_most, w.bound_most);
