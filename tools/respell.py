@@ -13,7 +13,7 @@ import sys
 NAME = r"[^\s(){}\[\].,;:«»\"]+"
 TOKEN = re.compile(NAME)
 OWN = "|".join(sorted(set(l.split(":")[0].split()[0] for l in open("crates.txt", encoding="utf-8") if l.strip() and not l.startswith("#"))))
-MADE = re.compile(r"^(returns|loop|invariant|decreases|overflow|unreachable|bounds|then|else|in)-|-requires(-|$)|^(lawful|names)-law$|^(In|Then|Else)-")
+MADE = re.compile(r"^(returns|loop|invariant(_of)?|decreases|overflow(_\w+)?|unreachable|bounds|then|else|in)-|-requires(-|$)|^(lawful|names)-law$|^(In|Then|Else)-")
 
 
 def code(line):
@@ -33,7 +33,7 @@ def respelled(name):
     if name in APART:
         return APART[name]
     if name[0].isupper():
-        return "".join(w[0].upper() + w[1:] for w in name.split("-") if w)
+        return "".join(w[0].upper() + w[1:] for w in re.split("[-_]", name) if w)
     return re.sub(r"(?<=[a-z])([A-Z])(?=[a-z])", lambda m: "_" + m.group(1).lower(), name).replace("-", "_")
 
 
@@ -57,7 +57,7 @@ def own_names(paths):
             if not made:
                 names += [t for t in TOKEN.findall(line) if "-" in t]
             own.update(n for n in names if re.search(r"[A-Za-z]", n) and not MADE.search(n))
-    wanted = {n for n in own - library if re.match(r"[A-Za-z][\w'-]*$", n) and ("-" in n or (n[0].islower() and re.search(r"[a-z][A-Z][a-z]", n)))}
+    wanted = {n for n in own - library if re.match(r"[A-Za-z][\w'-]*$", n) and ("-" in n or re.match(r"[A-Z]\w*_|[a-z]\w*[a-z][A-Z][a-z]", n))}
     return {n: respelled(n) for n in sorted(wanted) if respelled(n) != n}
 
 

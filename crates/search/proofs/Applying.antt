@@ -23,7 +23,7 @@ use Rattle.search.specs.Calls.{Keeps}
 use Rattle.search.specs.Calls.Keeps.{no_pair}
 use Rattle.search.specs.Entries.{below_pairs, entries_of, entry_of, pairs_on_top}
 use Rattle.search.specs.Fates.{ComesTo, StepWithin, effect}
-use Rattle.search.specs.Applied.{Applied, Goes_on, halved_entries, left_of_round}
+use Rattle.search.specs.Applied.{Applied, GoesOn, halved_entries, left_of_round}
 use Rattle.search.proofs.Lowest.{lowest_within}
 use Rattle.search.proofs.Settling.{entries_push, settle_is}
 
@@ -53,7 +53,7 @@ some_left : (m : Meaning) (bound k : ℕ) (es : List Entry) → 0 < length es �
 some_left m bound k [] l = absurd (let z : ⊥ = omega (arith, l) in z)
 some_left m bound k (e ∷ es) l = refl
 
-pub stays : (m : Meaning) (bound k : ℕ) (es : List Entry) → 0 < length es → Goes_on m bound k es es (record { stage = Unfinished; round = k })
+pub stays : (m : Meaning) (bound k : ℕ) (es : List Entry) → 0 < length es → GoesOn m bound k es es (record { stage = Unfinished; round = k })
 stays m bound k es l =
     let e = sym (some_left m bound k es l) in
     record { stage = ap (λ (S : Machine). S.stage) e; round = ap (λ (S : Machine). S.round) e; entries = ap (λ (S : Machine). S.entries) e }
@@ -61,14 +61,14 @@ stays m bound k es l =
 over_is : (m : Meaning) (bound k : ℕ) (es : List Entry) (b : Bool) → es ≡ [] → eqb k bound ≡ b → left_of_round m bound k es ≡ over m bound k b
 over_is m bound k es b none e = ap (left_of_round m bound k) none ∙ ap (over m bound k) e
 
-pub ends : (m : Meaning) (bound k : ℕ) (es : List Entry) → es ≡ [] → k ≡ bound → Goes_on m bound k es es (record { stage = NoneStage; round = k })
+pub ends : (m : Meaning) (bound k : ℕ) (es : List Entry) → es ≡ [] → k ≡ bound → GoesOn m bound k es es (record { stage = NoneStage; round = k })
 unfolding over
 ends m bound k es none last =
     let e = sym (over_is m bound k es true none (eq-eqb k bound last)) in
     record { stage = ap (λ (S : Machine). S.stage) e; round = ap (λ (S : Machine). S.round) e; entries = none ∙ ap (λ (S : Machine). S.entries) e }
 
 pub puts_up : (m : Meaning) (bound k : ℕ) (es es' : List stored.Entry) (p : Part) → entries_of es ≡ [] → k < bound → structure p ≡ first_part m (k + 1)
-    → es' ≡ es ++ Open (record { part = p; from = None }) ∷ [] → Goes_on m bound k (entries_of es) (entries_of es') (record { stage = Unfinished; round = k + 1 })
+    → es' ≡ es ++ Open (record { part = p; from = None }) ∷ [] → GoesOn m bound k (entries_of es) (entries_of es') (record { stage = Unfinished; round = k + 1 })
 unfolding over put_up
 puts_up m bound k es es' p none below is at =
     let e = sym (over_is m bound k (entries_of es) false none (ne_eqb k bound (λ s. omega (arith, s, below)))) in
@@ -113,7 +113,7 @@ halves_pushed h k from rest ps qs rs below second first =
 module _ {X : Type 0} (keeps : X → ℕ → ℕ → X → Type 0) (m : Meaning) (fate : Fate) (bound k : ℕ) (from : Option ℕ) (rest : List Entry) where
   -- the pairs on top are kept, and the round goes on with what is below them
   pub dropped_applied : (mid es' : List Entry) (x x' : X) (r : Standing) → fate ≡ Dropped
-      → mid ≡ below_pairs rest → Keeps X keeps (pairs_on_top rest) x x' → Goes_on m bound k mid es' r → Applied X keeps (effect m fate bound k from rest) bound es' x x' r
+      → mid ≡ below_pairs rest → Keeps X keeps (pairs_on_top rest) x x' → GoesOn m bound k mid es' r → Applied X keeps (effect m fate bound k from rest) bound es' x x' r
   dropped_applied mid es' x x' r is at kept goes =
       subst (λ (made : Made). Applied X keeps made bound es' x x' r) (sym (ap (λ (f : Fate). effect m f bound k from rest) is ∙ settle_is m bound k rest))
       (record {

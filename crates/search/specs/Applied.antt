@@ -21,7 +21,7 @@ left_of_round m bound k [] = over m bound k (k == bound)
 left_of_round m bound k (e ∷ rest) = record { stage = unfinished; bound = bound; round = k; entries = e ∷ rest }
 
 -- The round goes on, the next is put up, or none stands.
-pub record Goes_on (m : Meaning) (bound k : ℕ) (es es' : List Entry) (r : Standing) : Type 0 where
+pub record GoesOn (m : Meaning) (bound k : ℕ) (es es' : List Entry) (r : Standing) : Type 0 where
   pub stage : stage_of r.stage ≡ (left_of_round m bound k es).stage
   pub round : r.round ≡ (left_of_round m bound k es).round
   pub entries : es' ≡ (left_of_round m bound k es).entries

@@ -1,7 +1,7 @@
 //! Carrying out what becomes of the newest part.
 ghost use Rattle.std.specs.Prelude.{◌≡◌, ◌<◌, ◌≤◌, ◌∷◌, length, if◌then◌else◌, vec_capacity};
 ghost use Rattle.tasks.specs.Masked.{masked};
-ghost use Rattle.search.specs.Applied.{Applied, Goes_on, halved_entries};
+ghost use Rattle.search.specs.Applied.{Applied, GoesOn, halved_entries};
 ghost use Rattle.search.specs.Entries.{entries_of};
 ghost use Rattle.search.specs.Fates.{StepWithin, effect};
 ghost use Rattle.search.specs.Machines.Entry.{pair as due};
@@ -65,7 +65,7 @@ fn go_on(stack: &mut Vec<Entry>, snapshot: &Snapshot, bound: u8, round: u8) -> S
     requires round { round ≤ bound }
     requires some { 3841 ≤ vec_capacity stack.old }
     ensures room { vec_capacity stack.new ≡ vec_capacity stack.old }
-    ensures value { Goes_on (masked snapshot.now) bound round (entries_of stack.old.items) (entries_of stack.new.items) result }
+    ensures value { GoesOn (masked snapshot.now) bound round (entries_of stack.old.items) (entries_of stack.new.items) result }
 {
     if !stack.is_empty() {
         return Standing {
