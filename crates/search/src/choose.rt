@@ -1,5 +1,5 @@
 //! How a step with a choice is split.
-ghost use Rattle.std.specs.Prelude.{◌≡◌, ℕ, ◌+◌, ◌-◌, ◌<◌, ◌≤◌, true, false, not, ◌&&◌, ltb, if◌then◌else◌, Some, None, Option, ◌==◌, nat_lt};
+ghost use Rattle.std.specs.Prelude.{◌≡◌, ℕ, ◌+◌, ◌-◌, ◌<◌, ◌≤◌, true, false, not, ◌&&◌, if◌then◌else◌, Some, None, Option, ◌==◌, nat_lt};
 ghost use Rattle.sets.specs.Counts.{count};
 ghost use Rattle.sets.specs.Sets.{among};
 ghost use Rattle.tasks.specs.Masked.{masked};
@@ -59,7 +59,7 @@ fn better(f: u8, distance: Option<u8>, best: Option<(u8, u8)>) -> Option<(u8, u8
 // How far apart the actions that make a fact false and the others are in number; none where there is none of the ones or
 // of the others.
 fn distance(left: ActionSet, removers: ActionSet) -> Option<u8>
-    ensures value { result ≡ (if ltb 0 (count (λ a. among left a && among removers a) 128) && nat_lt 0 (count (λ a. among left a && not (among removers a)) 128) then Some ((count (λ a. among left a && among removers a) 128 - count (λ a. among left a && not (among removers a)) 128) + (count (λ a. among left a && not (among removers a)) 128 - count (λ a. among left a && among removers a) 128)) else None) }
+    ensures value { result ≡ (if nat_lt 0 (count (λ a. among left a && among removers a) 128) && nat_lt 0 (count (λ a. among left a && not (among removers a)) 128) then Some ((count (λ a. among left a && among removers a) 128 - count (λ a. among left a && not (among removers a)) 128) + (count (λ a. among left a && not (among removers a)) 128 - count (λ a. among left a && among removers a) 128)) else None) }
 {
     let removing = left.common(removers).len();
     let others = left.without(removers).len();

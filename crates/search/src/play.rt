@@ -1,9 +1,10 @@
 //! Playing a list of calls.
-ghost use Rattle.std.specs.Prelude.{◌≡◌, ◌+◌, ◌≤◌, [], ◌++◌, length, vec_len, vec_capacity};
+ghost use Rattle.std.specs.Prelude.{◌≡◌, ◌+◌, ◌≤◌, [], ◌++◌, length, vec_len, vec_capacity, IfOk};
 ghost use Rattle.memories.specs.Pairs.{recalls};
 ghost use Rattle.tasks.specs.Bundle.{meaning};
-ghost use Rattle.search.specs.Played.{Called, Calls, done as told_done, made as told_made, wrote as told_wrote};
+ghost use Rattle.search.specs.Played.{Called, Calls, done as told_done, made as told_made, tally, untouched, wrote as told_wrote};
 ghost use Rattle.search.specs.Plays.{PlayedOut};
+ghost use Rattle.search.specs.Runs.{Run};
 ghost use Rattle.search.specs.Stepped.{machine_of};
 
 use crate::answer::Answer;
@@ -46,6 +47,7 @@ pub fn play<T: Task, M: Memory, E: Estimator>(
     calls: &[Request],
 ) -> Result<Played, Unplayed>
     ensures value { PlayedOut M (λ x. recalls (M.Memory.has x)) M.Memory.keeps M.Memory.empties (meaning T.Task task.now) (E.Estimator.hopeless estimator.now (meaning T.Task task.now)) calls.now (machine_of search.old) memory.old (machine_of search.new) memory.new result }
+    ensures run { IfOk result (λ p. Run (machine_of search.new) (M.Memory.has memory.new) (meaning T.Task task.now) (E.Estimator.hopeless estimator.now (meaning T.Task task.now)) (tally untouched calls.now p.answers.items).amount) }
 {
     let Verdict::Blank = search.verdict() else {
         return Err(Unplayed::NotBlank);
