@@ -1,15 +1,20 @@
 -- The words that goal count adds up are those of its definition: the goals that do not hold, those of them that an action
 -- makes, and the largest gain, of which only the comparison with the missing goals matters.
-use Rattle.std.proofs.Common.{◌≡◌, ℕ, zero, suc, ◌*◌, ◌<◌, ◌≤◌, max, Bool, true, false, not, ◌&&◌, ◌||◌, ◌⊎◌, ℤ, pos, negsuc, sym, refl, ◌∙◌, inl, inr, mul-zero, arith}
+use Rattle.std.proofs.Common.{◌≡◌, ℕ, zero, suc, ◌*◌, ◌<◌, ◌≤◌, max, Bool, true, false, not, ◌&&◌, ◌||◌, ◌⊎◌, length, get_or, ℤ, pos, negsuc, sym, refl, ap, ◌∙◌, inl, inr, mul-zero, arith, MatchBool}
+use Rattle.std.specs.List.{AllWithin, HoldsAt}
+use Rattle.std.proofs.lemmas.List.Elements.{All-from_all_within}
 use Rattle.std.proofs.lemmas.Nat.{mul-le}
-use Rattle.std.proofs.lemmas.Bool.{cases_lt, le-ltb, lt-ltb}
+use Rattle.std.proofs.lemmas.Bool.{cases_Bool, cases_lt, le-ltb, lt-ltb}
 use Rattle.sets.specs.Bits.{bit}
 use Rattle.sets.specs.Counts.{count}
-use Rattle.sets.specs.Sets.{has}
+use Rattle.sets.specs.Sets.{ActionSet, among, has}
+use Rattle.sets.specs.Members.{members}
 use Rattle.sets.specs.Signs.{says, is}
 use Rattle.sets.specs.declared.literals.Literals.{Literals}
 use Rattle.sets.proofs.Counting.{count_ext}
+use Rattle.sets.proofs.Listing.{listed_only, on_all}
 use Rattle.tasks.specs.Meaning.{Meaning, Lawful}
+use Rattle.tasks.specs.Layers.{usable_below}
 use Rattle.estimators.specs.Ranges.{most_below}
 use Rattle.estimators.specs.GoalCounts.{missing, missing_count, gained, gains, goal_count}
 use Rattle.estimators.specs.Tallies.{count_cut, most_at}
@@ -49,6 +54,10 @@ makes_wanted (negsuc n) (negsuc k) false = refl
 abbrev pub Missing : Meaning → ℕ → Literals → Type 0
 Missing m s set = (f : ℕ) (v : Bool) → has set f v ≡ (says (m.goal f) v && is (not v) (bit s f))
 
+-- the action makes a literal of the set
+abbrev pub tally : Meaning → ℕ → Literals → ℕ → Bool
+tally m a set f = (says (m.makes a f) true && has set f true) || (says (m.makes a f) false && has set f false)
+
 module _ (m : Meaning) (law : Lawful m) (s : ℕ) (set : Literals) (is_missing : Missing m s set) where
   pub missing_many : count (λ f. has set f true || has set f false) 64 ≡ missing_count m s
   unfolding missing_count
@@ -56,12 +65,11 @@ module _ (m : Meaning) (law : Lawful m) (s : ℕ) (set : Literals) (is_missing :
       count_ext (λ f. has set f true || has set f false) (missing m s) 64 (λ f lt. rw (is_missing f true, is_missing f false) (wanted (m.goal f) (bit s f)))
       ∙ count_cut (missing m s) m.facts 64 law.facts_most (λ f past lt. rw (law.goal_past f past))
 
-  -- the literals of it that an action makes
-  pub gained_many : (a : ℕ) (made common : Literals) → ((f : ℕ) (v : Bool) → has made f v ≡ says (m.makes a f) v) → ((f : ℕ) (v : Bool) → has common f v ≡ (has made f v && has set f v))
-      → m.usable a ≡ true → count (λ f. has common f true || has common f false) 64 ≡ gains m s a
+  -- how many of its literals a usable action makes
+  pub gained_many : (a : ℕ) → m.usable a ≡ true → count (tally m a set) 64 ≡ gains m s a
   unfolding gains
-  gained_many a made common names both can =
-      count_ext (λ f. has common f true || has common f false) (gained m s a) 64 (λ f lt. rw (both f true, both f false, names f true, names f false, is_missing f true, is_missing f false) (makes_wanted (m.goal f) (m.makes a f) (bit s f)))
+  gained_many a can =
+      count_ext (tally m a set) (gained m s a) 64 (λ f lt. rw (is_missing f true, is_missing f false) (makes_wanted (m.goal f) (m.makes a f) (bit s f)))
       ∙ count_cut (gained m s a) m.facts 64 law.facts_most (λ f past lt. rw (law.goal_past f past))
       ∙ rw can
 
@@ -91,3 +99,22 @@ module _ (m : Meaning) (s left : ℕ) where
   pub too_few : 0 < missing_count m s → ((a : ℕ) → a < m.actions → left * gains m s a < missing_count m s) → true ≡ goal_count m s left
   unfolding goal_count
   too_few some each = sym (lt-ltb _ (missing_count m s) (most_times left (gains m s) m.actions (missing_count m s) some each))
+
+-- what is asked of each usable action decides
+module _ (m : Meaning) (law : Lawful m) (s left many : ℕ) (is_many : many ≡ missing_count m s) (some : 0 < many) (usable : ActionSet) (used : (a : ℕ) → among usable a ≡ m.usable a) where
+  pub judged : (r : Bool) (gain : ℕ → ℕ) → ((a : ℕ) → m.usable a ≡ true → gain a ≡ gains m s a)
+      → MatchBool r (AllWithin (λ a. left * gain a < many) (members (λ n. n) usable) 0 (length (members (λ n. n) usable)))
+      ((k : ℕ) × (k < length (members (λ n. n) usable)) × HoldsAt (λ a. many ≤ left * gain a) (members (λ n. n) usable) k)
+      → r ≡ goal_count m s left
+  judged true gain is few = too_few m s left (omega arith) (λ a lt. elim (cases_Bool (m.usable a)) [
+    | inl can ↦
+        let each = All-from_all_within (λ b. left * gain b < many) (members (λ n. n) usable) few in
+        let below : left * gain a < many = (on_all (λ n. n) usable (λ b. left * gain b < many)).0 each a (used a ∙ can) in
+        omega (arith, ap (λ x. left * x) (is a can))
+    | inr cannot ↦ omega (arith, ap (λ x. left * x) (idle_gain m s a cannot), mul-zero left)
+  ])
+  judged false gain is (k, lt, at) =
+      let a = get_or (members (λ n. n) usable) k 0 in
+      let can : m.usable a ≡ true = sym (used a) ∙ listed_only (λ n. n) usable k 0 lt in
+      let reached : many ≤ left * gain a = at 0 in
+      enough m s left a (usable_below m law a can) (omega (arith, ap (λ x. left * x) (is a can)))

@@ -1,17 +1,23 @@
 -- The sets that the code grows are the layers: what lies in a set lies in its layer, one action more adds what it makes,
 -- and a layer that does not grow is the last one.
-use Rattle.std.proofs.Common.{◌≡◌, ℕ, zero, suc, ◌+◌, ◌≤◌, min, Bool, true, false, ◌&&◌, ◌||◌, ltb, ℤ, pos, negsuc, Decides, sym, refl, ap, ◌∙◌, subst, inl, inr, add-one, arith}
+use Rattle.std.proofs.Common.{◌≡◌, ℕ, zero, suc, ◌+◌, ◌≤◌, min, Bool, true, false, ◌&&◌, ◌||◌, ltb, List, [], ◌∷◌, ◌++◌, ℤ, pos, negsuc, Decides, sym, refl, ap, ◌∙◌, subst, inl, inr, add-one, arith, Some, All}
+use Rattle.std.specs.List.{list_any}
+use Rattle.std.proofs.lemmas.List.Elements.{All-pop}
+use Rattle.std.proofs.lemmas.List.Folds.{Any-from_list_any, list_any-append, list_any-from_Any}
 use mathlib.Core.Path.{fun_ext}
-use Rattle.std.proofs.lemmas.Bool.{both_ways, cases_eq, cases_lt}
+use Rattle.std.proofs.lemmas.Bool.{and_parts, both_ways, cases_eq, cases_lt}
 use Rattle.std.proofs.lemmas.Bool.Decides.{same_from_decides, Decides-like}
 use Rattle.sets.specs.Bits.{bit}
-use Rattle.sets.specs.Sets.{has}
+use Rattle.sets.specs.Sets.{ActionSet, among, has}
+use Rattle.sets.specs.Members.{members}
+use Rattle.sets.proofs.Listing.{listed_each, listed_only}
 use Rattle.sets.specs.Signs.{says, is}
 use Rattle.sets.specs.declared.literals.Literals.{Literals}
 use Rattle.tasks.specs.Meaning.{Meaning, Lawful}
+use Rattle.tasks.specs.Layers.{usable_below}
 use Rattle.estimators.specs.Ranges.{some_below}
 use Rattle.estimators.specs.Layers.{Layer, allowed, inside, ready, next_layer, layer_at, relaxed}
-use Rattle.estimators.specs.Tallies.{all_at, all_from}
+use Rattle.estimators.specs.Tallies.{all_at, all_from, some_at, some_in}
 use Rattle.estimators.specs.Layering.{grows, rises}
 
 allowed_each : (z : ℤ) (values : Bool → Bool) → allowed z values ≡ true → (v : Bool) → says z v ≡ true → values v ≡ true
@@ -37,38 +43,48 @@ inside_is facts numbers set layer r past names decides = same_from_decides r (in
   (λ h. all_from _ facts (λ f lt. each_allowed (numbers f) (layer f) (λ v e. h f v (names f v ∙ e)))),
 )
 
--- a usable action is ready exactly if the set of its needs lies in the layer
-pub ready_is : (m : Meaning) → Lawful m → (layer : Layer) (a : ℕ) (needs : Literals) (r : Bool) → m.usable a ≡ true
-    → ((f : ℕ) (v : Bool) → has needs f v ≡ says (m.needs a f) v) → Decides r ((f : ℕ) (v : Bool) → has needs f v ≡ true → layer f v ≡ true) → r ≡ ready m layer a
-ready_is m law layer a needs r can names decides =
-    inside_is m.facts (m.needs a) needs layer r (law.needs_past_fact a) names decides ∙ sym (ap (λ (b : Bool). b && inside m.facts (m.needs a) layer) can)
-
 -- the action makes the literal and is ready in the layer
 abbrev pub adds : Meaning → Layer → ℕ → Bool → ℕ → Bool
 adds m layer f v a = ready m layer a && says (m.makes a f) v
 
+pub or_none : (b : Bool) → b ≡ (b || false)
+or_none true = refl
+or_none false = refl
+
 -- one action more
-or_swap : (l s w : Bool) → ((l || s) || w) ≡ (l || (w || s))
-or_swap true s w = refl
-or_swap false true true = refl
-or_swap false true false = refl
-or_swap false false w = or_none w
+one_more : (l s x : Bool) → ((l || s) || x) ≡ (l || (s || (x || false)))
+one_more true s x = refl
+one_more false true x = refl
+one_more false false true = refl
+one_more false false false = refl
+
+pub grown_more : (m : Meaning) (layer old new : Layer) (ys : List ℕ) (a : ℕ)
+    → ((f : ℕ) (v : Bool) → new f v ≡ (old f v || (inside m.facts (m.needs a) layer && says (m.makes a f) v)))
+    → (All (λ b. m.usable b ≡ true) ys → (f : ℕ) (v : Bool) → old f v ≡ (layer f v || list_any (adds m layer f v) ys))
+    → All (λ b. m.usable b ≡ true) (ys ++ (a ∷ [])) → (f : ℕ) (v : Bool) → new f v ≡ (layer f v || list_any (adds m layer f v) (ys ++ (a ∷ [])))
+grown_more m layer old new ys a is before all f v =
+    let parts = All-pop (λ b. m.usable b ≡ true) (ys ++ (a ∷ [])) ys (Some a) refl all in
+    let makes = inside m.facts (m.needs a) layer && says (m.makes a f) v in
+    is f v ∙ ap (λ b. b || makes) (before parts.0 f v) ∙ one_more (layer f v) (list_any (adds m layer f v) ys) makes
+    ∙ ap (λ b. layer f v || (list_any (adds m layer f v) ys || (((b && inside m.facts (m.needs a) layer) && says (m.makes a f) v) || false))) (sym parts.1)
+    ∙ ap (λ b. layer f v || b) (sym (list_any-append (adds m layer f v) ys (a ∷ [])))
+
+-- what some usable action adds is what some action adds
+pub some_member : (m : Meaning) → Lawful m → (layer : Layer) (f : ℕ) (v : Bool) (usable : ActionSet) → ((a : ℕ) → among usable a ≡ m.usable a)
+    → list_any (adds m layer f v) (members (λ n. n) usable) ≡ some_below (adds m layer f v) m.actions
+some_member m law layer f v usable used = same (list_any (adds m layer f v) (members (λ n. n) usable)) (some_below (adds m layer f v) m.actions) (λ e.
+    let at = Any-from_list_any (adds m layer f v) (members (λ n. n) usable) e in
+    let can : m.usable at.1 ≡ true = sym (used at.1) ∙ subst (λ (b : ℕ). among usable b ≡ true) at.3 (listed_only (λ n. n) usable at.0 at.1 at.2) in
+    some_in (adds m layer f v) m.actions at.1 (usable_below m law at.1 can) at.4) (λ e.
+    let at = some_at (adds m layer f v) m.actions e in
+    let can : m.usable at.0 ≡ true = (and_parts (m.usable at.0) (inside m.facts (m.needs at.0) layer) (and_parts (ready m layer at.0) (says (m.makes at.0 f) v) at.1).0).0 in
+    let there = listed_each (λ n. n) usable at.0 (used at.0 ∙ can) in
+    list_any-from_Any (adds m layer f v) (members (λ n. n) usable) (there.0, at.0, there.1, there.2, at.1))
   where
-    or_none : (x : Bool) → x ≡ (x || false)
-    or_none true = refl
-    or_none false = refl
-
-or_false : (x : Bool) → x ≡ (x || false)
-or_false true = refl
-or_false false = refl
-
-pub grown_none : (l : Bool) (g : ℕ → Bool) → l ≡ (l || some_below g 0)
-unfolding some_below
-grown_none l g = or_false l
-
-pub grown_more : (l : Bool) (g : ℕ → Bool) (n : ℕ) (old new : Bool) → old ≡ (l || some_below g n) → new ≡ (old || g n) → new ≡ (l || some_below g (n + 1))
-unfolding some_below
-grown_more l g n old new e q = rw (add-one, q, e) (or_swap l (some_below g n) (g n))
+    same : (a b : Bool) → (a ≡ true → b ≡ true) → (b ≡ true → a ≡ true) → a ≡ b
+    same true b p q = sym (p refl)
+    same false true p q = q refl
+    same false false p q = refl
 
 -- the layers as functions
 module _ (m : Meaning) (first : ℕ) where

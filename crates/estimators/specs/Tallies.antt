@@ -1,7 +1,7 @@
 -- Counts, largest numbers and tests over a range: how they bound one another, and how a test is read off.
 use Rattle.std.specs.Prelude.{◌≡◌, ℕ, zero, suc, ◌+◌, ◌<◌, ◌≤◌, Bool, true, false, cond, ◌||◌, ◌⊎◌, ◌≢◌, refl}
 use Rattle.std.proofs.Common.{sym, ap, subst, inl, inr, arith}
-use Rattle.std.proofs.lemmas.Bool.{both_ways, cases_eq, and_parts, and_from, or_left, or_right}
+use Rattle.std.proofs.lemmas.Bool.{both_ways, cases_eq, and_parts, and_from, or_cases, or_left, or_right}
 use Rattle.sets.specs.Counts.{count}
 use Rattle.estimators.specs.Ranges.{some_below, all_below, most_below}
 
@@ -51,6 +51,11 @@ some_in g (suc n) i h e = elim (cases_eq i n) [
   | inl q ↦ or_left (g n) (some_below g n) (subst (λ (j : ℕ). g j ≡ true) q e)
   | inr ne ↦ or_right (g n) (some_below g n) (some_in g n i (omega arith) e)
 ]
+
+pub some_at : (g : ℕ → Bool) (n : ℕ) → some_below g n ≡ true → (i : ℕ) × (g i ≡ true)
+unfolding some_below
+some_at g zero e = absurd (both_ways false refl e)
+some_at g (suc n) e = elim (or_cases (g n) (some_below g n) e) [ inl here ↦ (n, here) | inr lower ↦ some_at g n lower ]
 
 pub all_at : (g : ℕ → Bool) (n : ℕ) → all_below g n ≡ true → (i : ℕ) → i < n → g i ≡ true
 unfolding all_below

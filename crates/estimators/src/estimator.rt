@@ -1,3 +1,4 @@
+//! What an estimator is.
 ghost use Rattle.std.specs.Prelude.{◌≡◌, ℕ, Bool};
 ghost use Rattle.estimators.specs.Sound.{Sound};
 ghost use Rattle.tasks.specs.Bundle.{meaning};

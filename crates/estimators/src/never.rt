@@ -1,3 +1,4 @@
+//! An estimator that says nothing.
 ghost use Rattle.std.specs.Prelude.{false};
 ghost use Rattle.std.proofs.Common.{rules};
 
@@ -5,7 +6,7 @@ use crate::estimator::Estimator;
 use tasks::task::Task;
 
 /// An estimator that is never hopeless.
-#[derive(Drop)]
+#[derive(Clone, Copy, PartialEq, Eq, Debug, Default)]
 pub struct NeverHopeless;
 
 impl Estimator for NeverHopeless {
@@ -13,7 +14,7 @@ impl Estimator for NeverHopeless {
 
     ghost sound = { Prim.search rules };
 
-    fn hopeless<T: Task>(&self, task: &T, state: u64, left: u8) -> bool {
+    fn hopeless<T: Task>(&self, _task: &T, _state: u64, _left: u8) -> bool {
         false
     }
 }

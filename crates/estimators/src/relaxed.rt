@@ -1,17 +1,17 @@
+//! An estimator for which what is made is never undone.
 ghost use Rattle.std.specs.Prelude.{◌≡◌, ℕ, Bool, true, ◌&&◌, Decides};
-ghost use Rattle.estimators.specs.Layers.{next_layer, ready, relaxed};
-ghost use Rattle.sets.specs.Sets.{among, has};
+ghost use Rattle.estimators.specs.Layers.{inside, next_layer, relaxed};
+ghost use Rattle.sets.specs.Sets.{has};
 ghost use Rattle.sets.specs.Signs.{says};
 ghost use Rattle.tasks.specs.Bundle.{meaning};
 ghost use Rattle.estimators.specs.Layering.{relaxed_sound};
 
 use crate::estimator::Estimator;
-use sets::actions::ActionSet;
-use sets::literals::Literals;
+use sets::Literals;
 use tasks::task::Task;
 
 /// Hopeless where some goal could not be had after the actions left even if making a literal never undid its opposite.
-#[derive(Drop)]
+#[derive(Clone, Copy, PartialEq, Eq, Debug, Default)]
 pub struct Relaxed;
 
 impl Estimator for Relaxed {
@@ -21,16 +21,13 @@ impl Estimator for Relaxed {
 
     fn hopeless<T: Task>(&self, task: &T, state: u64, left: u8) -> bool {
         let goals = task.goals();
-        let usable = task.usable_actions();
-        let mut layer = Literals::of_state(state, task.facts() as u8);
-        for i in 0..left {
-            let had = lies_in(goals, layer);
-            if had {
+        let mut layer = Literals::of_state(state, task.facts());
+        for _ in 0..left {
+            if lies_in(goals, layer) {
                 return false;
             }
-            let next = grown(task, usable, layer);
-            let last = lies_in(next, layer);
-            if last {
+            let next = grown(task, layer);
+            if lies_in(next, layer) {
                 return true;
             }
             layer = next;
@@ -40,25 +37,17 @@ impl Estimator for Relaxed {
 }
 
 // The layer after this one.
-fn grown<T: Task>(task: &T, usable: ActionSet, layer: Literals) -> Literals
-    requires { (a : ℕ) → among usable a ≡ T.Task.usable task.now a }
+fn grown<T: Task>(task: &T, layer: Literals) -> Literals
     ensures value { (f : ℕ) (v : Bool) → has result f v ≡ next_layer (meaning T.Task task.now) (has layer) f v }
 {
-    let mut next = layer;
-    for a in 0..task.actions() {
-        next = next.union(made(task, usable, layer, a));
-    }
-    next
+    let usable = task.usable_actions().into_iter();
+    usable.fold(layer, |next, a| next.union(made(task, layer, a)))
 }
 
-// What the action makes, if it is ready in the layer.
-fn made<T: Task>(task: &T, usable: ActionSet, layer: Literals, a: usize) -> Literals
-    requires { (b : ℕ) → among usable b ≡ T.Task.usable task.now b }
-    ensures value { (f : ℕ) (v : Bool) → has result f v ≡ (ready (meaning T.Task task.now) (has layer) a && says (T.Task.makes task.now a f) v) }
+// What the action makes, if all that it needs is in the layer.
+fn made<T: Task>(task: &T, layer: Literals, a: usize) -> Literals
+    ensures value { (f : ℕ) (v : Bool) → has result f v ≡ (inside (T.Task.facts task.now) (T.Task.needs task.now a) (has layer) && says (T.Task.makes task.now a f) v) }
 {
-    if !usable.contains(a) {
-        return Literals::none();
-    }
     let row = task.row(a);
     if lies_in(row.needs, layer) {
         row.makes

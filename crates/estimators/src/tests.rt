@@ -12,10 +12,7 @@ fn ladder() -> Result<TableTask, Fail> {
     let makes = [1, 0, 0, 0, 1, 0, 0, 0, 1];
     let start = [-1, -1, -1];
     let goal = [1, 1, 1];
-    match TableTask::from_tables(3, 3, &needs, &makes, &start, &goal) {
-        Ok(task) => Ok(task),
-        Err(_) => Err(Fail::new("the tables are refused")),
-    }
+    Ok(TableTask::from_tables(3, 3, &needs, &makes, &start, &goal)?)
 }
 
 #[test]
@@ -40,12 +37,8 @@ fn goals_that_hold_are_never_hopeless(rt: HostRuntime) -> Result<(), Fail> {
 
 #[test]
 fn a_banned_action_does_not_count(rt: HostRuntime) -> Result<(), Fail> {
-    match Ban::new(ladder()?, &[2]) {
-        Ok(banned) => {
-            assert!(rt; GoalCount.hopeless(&banned, 3, 255));
-            assert!(rt; Relaxed.hopeless(&banned, 0, 255));
-            Ok(())
-        }
-        Err(_) => Err(Fail::new("the ban is refused")),
-    }
+    let banned = Ban::new(ladder()?, &[2]).map_err(|_| Fail::new("the ban is refused"))?;
+    assert!(rt; GoalCount.hopeless(&banned, 3, 255));
+    assert!(rt; Relaxed.hopeless(&banned, 0, 255));
+    Ok(())
 }

@@ -2,6 +2,5 @@ pub mod Sweeps
 pub mod Ranges
 pub mod Filters
 pub mod Computing
-pub mod Memories
 pub mod Running
 pub mod Calling

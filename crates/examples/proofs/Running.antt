@@ -5,7 +5,9 @@ use Rattle.tasks.specs.Meaning.{Meaning}
 use Rattle.filter.specs.Structures.{Structure}
 use Rattle.memories.specs.declared.list.ListMemory.{ListMemory}
 use Rattle.memories.specs.declared.row.Row.{Row}
-use Rattle.memories.specs.Lists.{rows_of}
+use Rattle.memories.specs.Rows.{IsListed, keep_row}
+use Rattle.memories.proofs.Finding.{listed-keep_row}
+use Rattle.memories.proofs.Chaining.{remembered}
 use Rattle.estimators.specs.GoalCounts.{goal_count}
 use Rattle.search.specs.Machines.{Entry, Stage, Machine, Made}
 use Rattle.search.specs.Machines.Entry.{part, pair}
@@ -18,12 +20,11 @@ use Rattle.examples.specs.Ends.{recalled, kept, Ends}
 use Rattle.examples.proofs.Sweeps.{outcome}
 use Rattle.examples.proofs.Filters.{filter_is, computed}
 use Rattle.examples.proofs.Computing.{recall_rows, keep_rows, Running, from, with_entries, in_stage, step, steps, run}
-use Rattle.examples.proofs.Memories.{keep_in}
 
 -- the rows after pairs were kept
-kept_are : {ks : List (ℕ × ℕ)} {x y : ListMemory} → Keeps ListMemory kept ks x y → rows_of y ≡ keep_rows (rows_of x) ks
+kept_are : {ks : List (ℕ × ℕ)} {x y : ListMemory} → Keeps ListMemory kept ks x y → y ≡ keep_rows x ks
 kept_are no_pair = refl
-kept_are (one_pair {s} {n} {ks} {x} {y} {z} one more) = kept_are more ∙ ap (λ (r : List Row). keep_rows r ks) one
+kept_are (one_pair {s} {n} {ks} {x} {y} {z} one more) = kept_are more ∙ ap (λ (r : List Row). keep_rows r ks) one.value
 
 module _ (m : Meaning) (hopeless : ℕ → ℕ → Bool) where
   -- a step that is made is the one that computes
@@ -45,16 +46,16 @@ module _ (m : Meaning) (hopeless : ℕ → ℕ → Bool) where
 
   -- all steps that are made are those that compute
   pub steps_are : {n : ℕ} {S : Machine} {x : ListMemory} {S' : Machine} {y : ListMemory} → Steps ListMemory recalled kept m hopeless n S x S' y
-      → (steps m hopeless n (from S (rows_of x))).sure ≡ true
-      → (S' ≡ (steps m hopeless n (from S (rows_of x))).machine) × (rows_of y ≡ (steps m hopeless n (from S (rows_of x))).rows)
+      → (steps m hopeless n (from S x)).sure ≡ true
+      → (S' ≡ (steps m hopeless n (from S x)).machine) × (y ≡ (steps m hopeless n (from S x)).rows)
   unfolding Same
   steps_are no_step e = (refl, refl)
   steps_are (one_more {n} {S} {x} {S₁} {x₁} {made} {x₂} before c k) e = rw add-one (go (steps_are before) (rw add-one at e))
     where
       R : Running
-      R = steps m hopeless n (from S (rows_of x))
+      R = steps m hopeless n (from S x)
 
-      go : (R.sure ≡ true → (S₁ ≡ R.machine) × (rows_of x₁ ≡ R.rows)) → (step m hopeless R).sure ≡ true → (made.machine ≡ (step m hopeless R).machine) × (rows_of x₂ ≡ (step m hopeless R).rows)
+      go : (R.sure ≡ true → (S₁ ≡ R.machine) × (x₁ ≡ R.rows)) → (step m hopeless R).sure ≡ true → (made.machine ≡ (step m hopeless R).machine) × (x₂ ≡ (step m hopeless R).rows)
       go ih e =
           let w = and_parts R.sure (in_stage m hopeless R.rows R.machine R.machine.stage).sure e in
           let same = ih w.0 in
@@ -63,16 +64,13 @@ module _ (m : Meaning) (hopeless : ℕ → ℕ → Bool) where
           (u.0, kept_are k ∙ ap (λ (r : List Row). keep_rows r made.keeps) same.1 ∙ u.1)
 
 -- pairs can be kept one after the other
-record Keeping (ks : List (ℕ × ℕ)) (x : ListMemory) : Type 0 where
-  memory : ListMemory
-  keeps : Keeps ListMemory kept ks x memory
-
-keeping : (ks : List (ℕ × ℕ)) (x : ListMemory) → Keeping ks x
-keeping [] x = record { memory = x; keeps = no_pair }
-keeping (k ∷ ks) x =
-    let one = keep_in x k.0 k.1 in
-    let more = keeping ks one.memory in
-    record { memory = more.memory; keeps = one_pair {s = k.0} {n = k.1} {y = one.memory} one.rows more.keeps }
+keeping : (ks : List (ℕ × ℕ)) (x : ListMemory) → IsListed x → Keeps ListMemory kept ks x (keep_rows x ks) × IsListed (keep_rows x ks)
+keeping [] x l = (no_pair, l)
+keeping (k ∷ ks) x l =
+    let next = keep_row 256 x k.0 k.1 in
+    let listed = listed-keep_row x k.0 k.1 l in
+    let more = keeping ks next listed in
+    (one_pair {s = k.0} {n = k.1} {y = next} (record { value = refl; listed = listed }) more.0, more.1)
 
 module _ (m : Meaning) (hopeless : ℕ → ℕ → Bool) where
   -- the step that computes can be made
@@ -99,29 +97,23 @@ module _ (m : Meaning) (hopeless : ℕ → ℕ → Bool) where
   staged rows S none q e = absurd (both_ways false refl e)
 
   record Chain (n : ℕ) (S : Machine) (x : ListMemory) (R : Running) : Type 0 where
-    memory : ListMemory
-    machine : Machine
-    made : Steps ListMemory recalled kept m hopeless n S x machine memory
-    same : machine ≡ R.machine
-    rows : rows_of memory ≡ R.rows
+    made : Steps ListMemory recalled kept m hopeless n S x R.machine R.rows
+    listed : IsListed R.rows
 
-  chain : (n : ℕ) (S : Machine) (x : ListMemory) → (steps m hopeless n (from S (rows_of x))).sure ≡ true → Chain n S x (steps m hopeless n (from S (rows_of x)))
-  chain zero S x e = record { memory = x; machine = S; made = no_step; same = refl; rows = refl }
-  chain (suc n) S x e = go (steps m hopeless n (from S (rows_of x))) (chain n S x) e
+  chain : (n : ℕ) (S : Machine) (x : ListMemory) → IsListed x → (steps m hopeless n (from S x)).sure ≡ true → Chain n S x (steps m hopeless n (from S x))
+  chain zero S x l e = record { made = no_step; listed = l }
+  chain (suc n) S x l e = go (steps m hopeless n (from S x)) (chain n S x l) e
     where
       go : (R : Running) → (R.sure ≡ true → Chain n S x R) → (step m hopeless R).sure ≡ true → Chain (suc n) S x (step m hopeless R)
       go R ih e =
           let w = and_parts R.sure (in_stage m hopeless R.rows R.machine R.machine.stage).sure e in
           let before = ih w.0 in
           let u = staged R.rows R.machine R.machine.stage refl w.1 in
-          let k = keeping u.made.keeps before.memory in
-          let c = subst₂ (λ (r : List Row) (M : Machine). Step m (recall_rows r) hopeless M u.made) (sym before.rows) (sym before.same) u.step in
+          let k = keeping u.made.keeps R.rows before.listed in
+          let more = rw add-one at (one_more before.made u.step k.0) in
           record {
-            memory = k.memory;
-            machine = u.made.machine;
-            made = rw add-one at (one_more before.made c k.keeps);
-            same = u.machine;
-            rows = kept_are k.keeps ∙ ap (λ (r : List Row). keep_rows r u.made.keeps) before.rows ∙ u.rows;
+            made = subst₂ (λ (M : Machine) (r : List Row). Steps ListMemory recalled kept m hopeless (suc n) S x M r) u.machine u.rows more;
+            listed = subst IsListed u.rows k.1;
           }
 
 -- where a run is sure, it was unfinished before
@@ -144,12 +136,12 @@ module _ (m : Meaning) (hopeless : ℕ → ℕ → Bool) (R : Running) where
       ]
 
 -- an advance makes all its steps where the run that computes is sure
-pub advance_is : (m : Meaning) (hopeless : ℕ → ℕ → Bool) (n : ℕ) (S : Machine) (x : ListMemory) → (steps m hopeless n (from S (rows_of x))).sure ≡ true
+pub advance_is : (m : Meaning) (hopeless : ℕ → ℕ → Bool) (n : ℕ) (S : Machine) (x : ListMemory) → (steps m hopeless n (from S x)).sure ≡ true
     → (S' : Machine) (y : ListMemory) (made : ℕ) → Advanced ListMemory recalled kept m hopeless n S x S' y made
-    → (made ≡ n) × (S' ≡ (steps m hopeless n (from S (rows_of x))).machine) × (rows_of y ≡ (steps m hopeless n (from S (rows_of x))).rows)
+    → (made ≡ n) × (S' ≡ (steps m hopeless n (from S x)).machine) × (y ≡ (steps m hopeless n (from S x)).rows)
 advance_is m hopeless n S x e S' y made v = elim (cases_lt made n) [
   | inl h ↦
-      let w = was_unfinished m hopeless (from S (rows_of x)) n e made h in
+      let w = was_unfinished m hopeless (from S x) n e made h in
       let u = steps_are m hopeless v.steps w.0 in
       let q = v.all (ap (λ (M : Machine). M.stage) u.0 ∙ w.1) in
       absurd (omega arith)
@@ -163,23 +155,10 @@ advance_is m hopeless n S x e S' y made v = elim (cases_lt made n) [
 -- a row of the table: the run computes to it
 pub ends : (m : Meaning) (bound n : ℕ) → (run m bound n).sure ≡ true → Ends m bound n (run m bound n).machine.stage (run m bound n).rows
 ends m bound n e = record {
-  every = λ x y S empty r.
-      let u = steps_are m (goal_count m) r (sure x empty) in
-      (ap (λ (M : Machine). M.stage) u.0 ∙ stage x empty, u.1 ∙ rows x empty);
-  some = λ x empty. let c = chain m (goal_count m) n (put_up m bound 0) x (sure x empty) in (c.machine, c.memory, c.made);
-  advance = λ x y S made empty v.
-      let u = advance_is m (goal_count m) n (put_up m bound 0) x (sure x empty) S y made v in
-      (u.0, ap (λ (M : Machine). M.stage) u.1 ∙ stage x empty, u.2 ∙ rows x empty);
+  every = λ y S r. let u = steps_are m (goal_count m) r e in (ap (λ (M : Machine). M.stage) u.0, u.1);
+  some = let c = chain m (goal_count m) n (put_up m bound 0) [] none_listed e in ((run m bound n).machine, (run m bound n).rows, c.made, remembered _ c.listed);
+  advance = λ y S made v. let u = advance_is m (goal_count m) n (put_up m bound 0) [] e S y made v in (u.0, ap (λ (M : Machine). M.stage) u.1, u.2);
 }
   where
-    from_rows : List Row → Running
-    from_rows r = steps m (goal_count m) n (from (put_up m bound 0) r)
-
-    sure : (x : ListMemory) → rows_of x ≡ [] → (from_rows (rows_of x)).sure ≡ true
-    sure x empty = subst (λ (r : List Row). (from_rows r).sure ≡ true) (sym empty) e
-
-    stage : (x : ListMemory) → rows_of x ≡ [] → (from_rows (rows_of x)).machine.stage ≡ (run m bound n).machine.stage
-    stage x empty = ap (λ (r : List Row). (from_rows r).machine.stage) empty
-
-    rows : (x : ListMemory) → rows_of x ≡ [] → (from_rows (rows_of x)).rows ≡ (run m bound n).rows
-    rows x empty = ap (λ (r : List Row). (from_rows r).rows) empty
+    none_listed : IsListed []
+    none_listed = record { few = omega arith; apart = λ i j d lt within. absurd (omega arith) }

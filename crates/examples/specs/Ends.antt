@@ -4,8 +4,8 @@ use Rattle.tasks.specs.Meaning.{Meaning}
 use Rattle.memories.specs.Pairs.{recalls}
 use Rattle.memories.specs.declared.list.ListMemory.{ListMemory}
 use Rattle.memories.specs.declared.row.Row.{Row}
-use Rattle.memories.specs.Lists.{rows_of}
-use Rattle.memories.specs.contracts.list.calls.ListMemoryMemory.TheImpl as list_memory
+use Rattle.memories.specs.Remembered.{IsRemembered}
+use Rattle.memories.specs.contracts.list.ListMemoryMemory.TheImpl as list_memory
 use Rattle.estimators.specs.GoalCounts.{goal_count}
 use Rattle.search.specs.Machines.{Stage, Machine}
 use Rattle.search.specs.Steps.{put_up}
@@ -29,12 +29,12 @@ Advances m bound amount x S y made = Advanced ListMemory recalled kept m (goal_c
 -- After n steps from the opening of the task up to the bound, this verdict stands and the memory has these rows.
 pub record Ends (m : Meaning) (bound n : ℕ) (stage : Stage) (rows : List Row) : Type 0 where
   -- in every way to make n steps
-  pub every : (x y : ListMemory) (S : Machine) → rows_of x ≡ [] → Leads m bound n x S y → (S.stage ≡ stage) × (rows_of y ≡ rows)
-  -- there is one from each empty memory
-  pub some : (x : ListMemory) → rows_of x ≡ [] → (S : Machine) × (y : ListMemory) × Leads m bound n x S y
+  pub every : (y : ListMemory) (S : Machine) → Leads m bound n [] S y → (S.stage ≡ stage) × (y ≡ rows)
+  -- there is one, and a list memory with the rows to which it leads
+  pub some : (S : Machine) × (y : ListMemory) × Leads m bound n [] S y × IsRemembered y
   -- and an advance by n makes n steps
-  pub advance : (x y : ListMemory) (S : Machine) (made : ℕ) → rows_of x ≡ [] → Advances m bound n x S y made → (made ≡ n) × (S.stage ≡ stage) × (rows_of y ≡ rows)
+  pub advance : (y : ListMemory) (S : Machine) (made : ℕ) → Advances m bound n [] S y made → (made ≡ n) × (S.stage ≡ stage) × (y ≡ rows)
 
 -- A list memory with these rows answers so of a state and a number of actions left.
 abbrev pub Answers : List Row → ℕ → ℕ → Bool → Type 0
-Answers rows state left answer = (x : ListMemory) → rows_of x ≡ rows → recalled x state left ≡ answer
+Answers rows state left answer = recalled rows state left ≡ answer

@@ -1,7 +1,6 @@
 //! Bake and copy by the calls of the search.
 ghost use Rattle.std.specs.Prelude.{◌≡◌, [], ◌∷◌, Ok};
 ghost use Rattle.tasks.specs.Masked.{masked};
-ghost use Rattle.memories.specs.Lists.{rows_of};
 ghost use Rattle.memories.specs.Rows.{row};
 ghost use Rattle.search.specs.Machines.Stage.{found};
 ghost use Rattle.search.specs.Stepped.{machine_of};
@@ -21,10 +20,7 @@ pub fn baking() -> TableTask
 {
     let needs = [0, -1, 0, 0, -1, 0, 1, 1, 0, 0, 1, 0];
     let makes = [1, 0, 0, 0, 1, 0, 0, 0, 1, 0, -1, 0];
-    match TableTask::from_tables(3, 4, &needs, &makes, &[-1, -1, -1], &[0, -1, 1]) {
-        Ok(task) => task,
-        Err(_) => unreachable(),
-    }
+    TableTask::from_tables(3, 4, &needs, &makes, &[-1, -1, -1], &[0, -1, 1]).unwrap()
 }
 
 /// What the calls answered.
@@ -46,7 +42,7 @@ pub fn copy_in_twelve_steps(search: &mut Search, memory: &mut ListMemory) -> Pla
     ensures one_step_is_made { result.second ≡ Ok 1 }
     ensures then_a_plan_of_four_stands { result.end ≡ Found 4 }
     ensures it_is_bake_thread_copy_unthread { (machine_of search.new).stage ≡ found (0 ∷ 1 ∷ 2 ∷ 3 ∷ []) }
-    ensures one_pair_was_kept { rows_of memory.new ≡ row 0 3 ∷ [] }
+    ensures one_pair_was_kept { memory.new ≡ row 0 3 ∷ [] }
 {
     let task = baking();
     let _ = search.open(&task, memory, 4);

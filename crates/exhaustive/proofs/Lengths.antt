@@ -1,8 +1,8 @@
 -- Lengths tried in turn: where no sequence of any length below n reaches the goals, one of n actions that does is a shortest.
-use Rattle.std.proofs.Common.{◌≡◌, ℕ, suc, ◌+◌, ◌<◌, ◌≤◌, List, length, sym, refl, ap, ◌∙◌, subst, inl, inr, add-one, arith, below_more}
+use Rattle.std.proofs.Common.{◌≡◌, ℕ, suc, ◌+◌, ◌<◌, ◌≤◌, List, length, sym, refl, ap, ◌∙◌, subst, inl, inr, arith}
 use Rattle.std.proofs.lemmas.Bool.{cases_lt}
 use Rattle.tasks.specs.Meaning.{Meaning}
-use Rattle.tasks.specs.States.{Reaches, Shortest, Solvable, Solves, start_state}
+use Rattle.tasks.specs.States.{Reaches, Solves, start_state}
 use Rattle.exhaustive.specs.Sequences.{sequences, sequences_up_to, sum}
 use Rattle.exhaustive.specs.Tried.{NoneReaches}
 use Rattle.exhaustive.specs.Answered.{SpentOn}
@@ -13,36 +13,12 @@ pub record Covered (m : Meaning) (budget left n : ℕ) : Type 0 where
   pub cost : budget ≡ left + sum (sequences m (start_state m)) n
   pub none : (k : ℕ) → k < n → NoneReaches m (start_state m) k
 
-pub none_covered : (m : Meaning) (budget : ℕ) → Covered m budget budget 0
-none_covered m budget = record { cost = omega arith; none = λ k h. absurd (omega arith) }
-
-pub one_more : (m : Meaning) (budget left less n : ℕ) → left ≡ less + sequences m (start_state m) n → NoneReaches m (start_state m) n
-    → Covered m budget left n → Covered m budget less (n + 1)
-one_more m budget left less n paid nothing p = record {
-  cost = p.cost ∙ simp (add-one) (let x : sum (sequences m (start_state m)) (suc n) ≡ sum (sequences m (start_state m)) n + sequences m (start_state m) n = refl in omega arith);
-  none = below_more _ _ p.none nothing;
-}
-
 -- a solution is as long as the lengths that were tried, or longer
 pub no_shorter : (m : Meaning) (budget left n : ℕ) → Covered m budget left n → (others : List ℕ) → Solves m others → n ≤ length others
 no_shorter m budget left n p others solves = elim (cases_lt (length others) n) [
   | inl below ↦ absurd (p.none (length others) below others refl solves)
   | inr past ↦ past
 ]
-
-pub is_shortest : (m : Meaning) (budget left n : ℕ) → Covered m budget left n → (acts : List ℕ) → length acts ≡ n → Solves m acts → Shortest m acts
-is_shortest m budget left n p acts h solves = record {
-  solves = solves;
-  least = λ others o. omega (arith, no_shorter m budget left n p others o);
-}
-
-pub not_solvable : (m : Meaning) (budget left n bound : ℕ) → bound < n → Covered m budget left n → Solvable m bound → ⊥
-not_solvable m budget left n bound h p s = omega (arith, s.1, no_shorter m budget left n p s.0 s.2)
-
-pub is_paid : (m : Meaning) (budget left n bound : ℕ) → bound < n → Covered m budget left n → sequences_up_to m bound ≤ budget
-is_paid m budget left n bound h p =
-    let part : sum (sequences m (start_state m)) (suc bound) ≤ sum (sequences m (start_state m)) n = sum_part (sequences m (start_state m)) bound n h in
-    omega (arith, p.cost)
 
 pub up_to_spent : (m : Meaning) (budget left n k : ℕ) → left < sequences m (start_state m) n → n ≤ k → Covered m budget left n → budget < sequences_up_to m k
 up_to_spent m budget left n k short h p =

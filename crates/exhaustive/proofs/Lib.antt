@@ -2,4 +2,3 @@ pub mod Applicable
 pub mod Adding
 pub mod Passing
 pub mod Lengths
-pub mod Rests

@@ -1,10 +1,13 @@
 -- The actions of a state tried in turn: what was tried below an action reaches nothing, and what it cost adds up.
-use Rattle.std.proofs.Common.{◌≡◌, ℕ, suc, ◌+◌, ◌<◌, true, false, cond, List, [], ◌∷◌, length, refl, ap, ◌∙◌, inl, inr, add-one, arith, below_more}
+use Rattle.std.proofs.Common.{◌≡◌, ℕ, suc, ◌+◌, ◌-◌, ◌<◌, ◌≤◌, Bool, true, false, cond, List, [], ◌∷◌, length, Some, None, Ok, Err, Option, Decides, refl, ap, ◌∙◌, inl, inr, add-one, arith, below_more}
 use Rattle.std.proofs.lemmas.Bool.{both_ways, cases_lt}
+use Rattle.std.proofs.lemmas.Bool.Decides.{not_from_Decides}
+use Rattle.std.specs.Option.{SomeIff}
 use Rattle.tasks.specs.Meaning.{Meaning, Lawful}
 use Rattle.tasks.specs.States.{Applies, GoalsHold, Reaches, after}
 use Rattle.exhaustive.specs.Sequences.{applicable, sequences, sum}
-use Rattle.exhaustive.specs.Tried.{NoneReaches}
+use Rattle.exhaustive.specs.declared.budget.OutOfBudget.{OutOfBudget}
+use Rattle.exhaustive.specs.Tried.{NoneReaches, TriedAll}
 use Rattle.exhaustive.proofs.Adding.{sum_part}
 
 -- the sequences that begin with an action, where n more follow
@@ -15,9 +18,6 @@ branch m s n a = cond (applicable m s a) (sequences m (after m s a) n) 0
 pub record Passed (m : Meaning) (s n budget left a : ℕ) : Type 0 where
   pub cost : budget ≡ left + sum (branch m s n) a
   pub none : (k : ℕ) → k < a → (rest : List ℕ) → length rest ≡ n → Applies m s k → Reaches m (after m s k) rest → ⊥
-
-pub none_yet : (m : Meaning) (s n budget : ℕ) → Passed m s n budget budget 0
-none_yet m s n budget = record { cost = omega arith; none = λ k h. absurd (omega arith) }
 
 -- an action that does not apply costs nothing
 pub not_applying : (m : Meaning) (s n budget left a : ℕ) → applicable m s a ≡ false → (Applies m s a → ⊥) → Passed m s n budget left a → Passed m s n budget left (a + 1)
@@ -58,7 +58,27 @@ too_many m s n budget left a e below short p =
     let here : branch m s n a ≡ sequences m (after m s a) n = ap (λ b. cond b (sequences m (after m s a) n) 0) e in
     omega (arith, p.cost, sum_part (branch m s n) a m.actions below)
 
--- the empty sequence
-pub none_empty : (m : Meaning) (s : ℕ) → (GoalsHold m s → ⊥) → NoneReaches m s 0
-none_empty m s never [] h reaches = never reaches
-none_empty m s never (a ∷ rest) h reaches = absurd (omega arith)
+-- one is taken from a budget, if there is one left
+pub checked_some : (budget left : ℕ) (o : Option ℕ) → SomeIff o (1 ≤ budget) (budget - 1) → o ≡ Some left → budget ≡ left + 1
+checked_some budget left (Some n) d e = let same : n ≡ left = cc in omega (arith, d, same)
+checked_some budget left None d e = absurd (grind arith)
+
+pub checked_none : (budget : ℕ) (o : Option ℕ) → SomeIff o (1 ≤ budget) (budget - 1) → o ≡ None → budget ≡ 0
+checked_none budget (Some n) d e = absurd (grind arith)
+checked_none budget None d e = omega (arith, d)
+
+-- the empty sequence costs one
+pub empty_tried : (m : Meaning) (s budget left : ℕ) (p : List ℕ) → length p ≡ 0 → budget ≡ left + 1 → (b : Bool) → Decides b (GoalsHold m s) → TriedAll m s budget left p p (Ok b)
+unfolding sequences
+empty_tried m s budget left [] n paid true d = d.0 refl
+empty_tried m s budget left [] n paid false d = (none_empty, paid, refl)
+  where
+    none_empty : NoneReaches m s 0
+    none_empty [] h reaches = not_from_Decides _ d refl reaches
+    none_empty (a ∷ rest) h reaches = absurd (omega arith)
+empty_tried m s budget left (x ∷ xs) n paid b d = absurd (omega arith)
+
+pub empty_spent : (m : Meaning) (s left : ℕ) (p : List ℕ) (spent : OutOfBudget) → length p ≡ 0 → TriedAll m s 0 left p p (Err spent)
+unfolding sequences
+empty_spent m s left [] spent n = (omega arith, refl)
+empty_spent m s left (x ∷ xs) spent n = absurd (omega arith)

@@ -2,10 +2,11 @@
 //! what it answers is beyond doubt.
 #![tactic(auto)]
 
-pub mod answer;
+pub mod budget;
 mod extend;
 pub mod plan;
 #[cfg(test)]
 mod tests;
 
+pub use budget::OutOfBudget;
 pub use plan::shortest_plan;

@@ -7,5 +7,6 @@ pub mod Revision
 pub mod Placing
 pub mod Turning
 pub mod Settling
+pub mod Restricting
 pub mod Masking
 pub mod Finishing

@@ -1,26 +1,17 @@
 -- One more action looked at: where it fits it joins those left, and what they make and need in common is brought up to date.
 use Rattle.std.proofs.Common.{◌≡◌, ℕ, ◌<◌, Bool, true, false, not, ◌&&◌, ◌||◌, eqb, ltb, ◌⊎◌, ℤ, sym, refl, ◌∙◌, subst, inl, inr}
-use Rattle.std.proofs.lemmas.Bool.{or_cases, or_left, or_right, or_from, and_parts, and_from, eqb-true, eq-eqb, both_ways, cases_Bool, cases_lt, lt-ltb}
-use Rattle.sets.specs.Sets.{has, among}
+use Rattle.std.proofs.lemmas.Bool.{or_cases, or_left, or_right, or_from, and_parts, and_from, eqb-true, eq-eqb, both_ways, cases_Bool, cases_lt, lt-ltb, true_from_ne_false, false_from_ne_true}
+use Rattle.sets.specs.Sets.{has, among, ActionSet}
 use Rattle.sets.specs.Signs.{says}
-use Rattle.sets.specs.declared.actions.ActionSet.{ActionSet}
 use Rattle.sets.specs.declared.literals.Literals.{Literals}
 use Rattle.tasks.specs.Meaning.{Meaning, Lawful, value, Three}
 use Rattle.tasks.specs.Rows.{Names}
 use Rattle.tasks.specs.declared.row.Row.{Row}
 use Rattle.filter.specs.declared.stage.StageMasks.{StageMasks}
-use Rattle.filter.specs.Kernel.{Fits, Fit, Joined, Met, Looked}
+use Rattle.filter.specs.declared.stage.Survey.{Survey}
+use Rattle.filter.specs.Kernel.{Fits, Fit, Joined, Met, Joins, Looked}
 use Rattle.tasks.proofs.Acting.{said_value, value_said}
 use Rattle.filter.proofs.Values.{no_value}
-
--- what is not false is true, and what is not true is false
-pub stands : (x : Bool) → (x ≡ false → ⊥) → x ≡ true
-stands true h = refl
-stands false h = absurd (h refl)
-
-pub falls : (x : Bool) → (x ≡ true → ⊥) → x ≡ false
-falls true h = absurd (h refl)
-falls false h = refl
 
 -- a set that names numbers has a literal where the number is its value
 module _ (numbers : ℕ → ℤ) (set : Literals) (names : Names numbers set) (three : (f : ℕ) → Three (numbers f)) where
@@ -32,7 +23,7 @@ module _ (numbers : ℕ → ℤ) (set : Literals) (names : Names numbers set) (t
 
 -- a number is a value, if it can't be otherwise
 pub decided : (z : ℤ) (v : Bool) → Three z → ((z ≡ value v → ⊥) → ⊥) → z ≡ value v
-decided z v h n = said_value z h v (stands (says z v) (λ e. n (λ q. both_ways (says z v) e (value_said z v q))))
+decided z v h n = said_value z h v (true_from_ne_false (says z v) (λ e. n (λ q. both_ways (says z v) e (value_said z v q))))
 
 -- what is needed or made is a fact of the task
 pub need_fact : (m : Meaning) → Lawful m → (a f : ℕ) (v : Bool) → m.needs a f ≡ value v → f < m.facts
@@ -46,83 +37,83 @@ Adds set a more = (b : ℕ) → among more b ≡ (among set b || (ltb a 128 && e
 
 module _ (set more : ActionSet) (a : ℕ) (adds : Adds set a more) (small : a < 128) where
   old : (b : ℕ) → among set b ≡ true → among more b ≡ true
-  old b m = adds b ∙ or_left (among set b) (ltb a 128 && eqb b a) m
+  old b m = adds b ∙ or_left _ _ m
 
   new : among more a ≡ true
-  new = adds a ∙ or_right (among set a) (ltb a 128 && eqb a a) (and_from (ltb a 128) (eqb a a) (lt-ltb a 128 small) (eq-eqb a a refl))
+  new = adds a ∙ or_right _ _ (and_from _ _ (lt-ltb _ _ small) (eq-eqb _ _ refl))
 
   either : (P : ℕ → Type 0) → ((b : ℕ) → among set b ≡ true → P b) → P a → (b : ℕ) → among more b ≡ true → P b
   either P was here b m =
-      elim (or_cases (among set b) (ltb a 128 && eqb b a) (sym (adds b) ∙ m))
-      [ inl k ↦ was b k | inr e ↦ subst P (sym (eqb-true b a (and_parts (ltb a 128) (eqb b a) e).1)) here ]
+      elim (or_cases _ _ (sym (adds b) ∙ m))
+      [ inl k ↦ was b k | inr e ↦ subst P (sym (eqb-true _ _ (and_parts _ _ e).1)) here ]
 
   module _ (numbers : ℕ → ℕ → ℤ) (row v w : Literals) (names : Names (numbers a) row) (three : (f : ℕ) → Three (numbers a f)) where
     joined_more : Joined numbers set v → ((f : ℕ) (s : Bool) → has w f s ≡ (has v f s || has row f s)) → Joined numbers more w
     joined_more j u = record {
       each = λ b f s m h. u f s ∙ either (λ x. numbers x f ≡ value s → (has v f s || has row f s) ≡ true)
-          (λ x k g. or_left (has v f s) (has row f s) (j.each x f s k g))
-          (λ g. or_right (has v f s) (has row f s) (naming (numbers a) row names three f s g)) b m h;
-      only = λ f s none. u f s ∙ or_from (has v f s) (has row f s) (j.only f s (λ b m. none b (old b m))) (falls (has row f s) (λ e. none a new (named (numbers a) row names three f s e)));
+          (λ x k g. or_left _ _ (j.each x f s k g))
+          (λ g. or_right _ _ (naming _ _ names three f s g)) b m h;
+      only = λ f s none. u f s ∙ or_from _ _ (j.only f s (λ b m. none b (old b m))) (false_from_ne_true _ (λ e. none a new (named _ _ names three f s e)));
     }
 
     met_more : (facts : ℕ) → Met facts numbers set v → ((f : ℕ) (s : Bool) → has w f s ≡ (has v f s && has row f s)) → Met facts numbers more w
     met_more facts j u = record {
-      each = λ b f s m h. let both = and_parts (has v f s) (has row f s) (sym (u f s) ∙ h) in
-          either (λ x. numbers x f ≡ value s) (λ x k. j.each x f s k both.0) (named (numbers a) row names three f s both.1) b m;
-      only = λ f s lt all. u f s ∙ and_from (has v f s) (has row f s) (j.only f s lt (λ b m. all b (old b m))) (naming (numbers a) row names three f s (all a new));
+      each = λ b f s m h. let both = and_parts _ _ (sym (u f s) ∙ h) in
+          either (λ x. numbers x f ≡ value s) (λ x k. j.each x f s k both.0) (named _ _ names three f s both.1) b m;
+      only = λ f s lt all. u f s ∙ and_from _ _ (j.only f s lt (λ b m. all b (old b m))) (naming _ _ names three f s (all a new));
     }
 
 -- no action yet: nothing is made, and everything is agreed on
 pub joined_none : (numbers : ℕ → ℕ → ℤ) (set : ActionSet) (v : Literals) → ((f : ℕ) (s : Bool) → has v f s ≡ false) → ((a : ℕ) → among set a ≡ false) → Joined numbers set v
-joined_none numbers set v none empty = record { each = λ a f s m h. absurd (both_ways (among set a) (empty a) m); only = λ f s h. none f s }
+joined_none numbers set v none empty = record { each = λ a f s m h. absurd (both_ways _ (empty a) m); only = λ f s h. none f s }
 
 pub met_none : (facts : ℕ) (numbers : ℕ → ℕ → ℤ) (set : ActionSet) (v : Literals) → ((f : ℕ) (s : Bool) → has v f s ≡ ltb f facts) → ((a : ℕ) → among set a ≡ false) → Met facts numbers set v
-met_none facts numbers set v all empty = record { each = λ a f s m h. absurd (both_ways (among set a) (empty a) m); only = λ f s lt h. all f s ∙ lt-ltb f facts lt }
+met_none facts numbers set v all empty = record { each = λ a f s m h. absurd (both_ways _ (empty a) m); only = λ f s lt h. all f s ∙ lt-ltb _ _ lt }
 
 -- one member less
 module _ (g h : ℕ → Bool) (a : ℕ) (drops : (b : ℕ) → h b ≡ (g b && not (eqb b a))) where
   pub smaller : (b : ℕ) → h b ≡ true → g b ≡ true
-  smaller b m = (and_parts (g b) (not (eqb b a)) (sym (drops b) ∙ m)).0
+  smaller b m = (and_parts _ _ (sym (drops b) ∙ m)).0
 
   -- what is not in the smaller set was not in the larger, or is the one dropped
   pub gone : (b : ℕ) → h b ≡ false → (g b ≡ false) ⊎ (b ≡ a)
   gone b m =
       elim (cases_Bool (eqb b a)) [
-        | inl e ↦ inr (eqb-true b a e)
-        | inr e ↦ elim (cases_Bool (g b)) [ inl k ↦ absurd (both_ways (h b) m (drops b ∙ rw (k, e))) | inr k ↦ inl k ]
+        | inl e ↦ inr (eqb-true _ _ e)
+        | inr e ↦ elim (cases_Bool (g b)) [ inl k ↦ absurd (both_ways _ m (drops b ∙ rw (k, e))) | inr k ↦ inl k ]
       ]
 
-pub looked_none : (m : Meaning) (g : StageMasks) (required : Literals) (left : ActionSet) (made agreed : Literals)
-    → ((a : ℕ) → among left a ≡ false) → ((f : ℕ) (v : Bool) → has made f v ≡ false) → ((f : ℕ) (v : Bool) → has agreed f v ≡ ltb f m.facts)
-    → Looked m g required g.left left made agreed agreed
-looked_none m g required left made agreed empty none all = record {
+pub looked_none : (m : Meaning) (g : StageMasks) (required : Literals) (s : Survey)
+    → ((a : ℕ) → among s.left a ≡ false) → ((f : ℕ) (v : Bool) → has s.made f v ≡ false)
+    → ((f : ℕ) (v : Bool) → has s.agreed f v ≡ ltb f m.facts) → ((f : ℕ) (v : Bool) → has s.wanted f v ≡ ltb f m.facts) → Looked m g required g.left s
+looked_none m g required s empty none agreed wanted = record {
   rests = λ a k. k;
-  from = λ a k. absurd (both_ways (among left a) (empty a) k);
-  fit = λ a k. absurd (both_ways (among left a) (empty a) k);
-  stays = λ a k n. absurd (both_ways (among g.left a) n k);
-  making = joined_none m.makes left made none empty;
-  agreeing = met_none m.facts m.makes left agreed all empty;
-  wanting = met_none m.facts m.needs left agreed all empty;
+  from = λ a k. absurd (both_ways _ (empty a) k);
+  fit = λ a k. absurd (both_ways _ (empty a) k);
+  stays = λ a k n. absurd (both_ways _ n k);
+  making = joined_none m.makes s.left s.made none empty;
+  agreeing = met_none m.facts m.makes s.left s.agreed agreed empty;
+  wanting = met_none m.facts m.needs s.left s.wanted wanted empty;
 }
 
 module _ (m : Meaning) (lw : Lawful m) (g : StageMasks) (required : Literals) (a : ℕ) (row : Row) (nn : Names (m.needs a) row.needs) (nm : Names (m.makes a) row.makes) where
   -- the row of an action fits where the action does
   fit_row : Fit m g required a → Fits row g required
   fit_row h = record {
-    needs = λ f v e. h.needs f v (named (m.needs a) row.needs nn (lw.needs_three a) f v e);
-    makes = λ f v e. h.makes f v (named (m.makes a) row.makes nm (lw.makes_three a) f v e);
-    turns = λ f v e. naming (m.makes a) row.makes nm (lw.makes_three a) f v (h.turns f v e);
+    needs = λ f v e. h.needs f v (named _ _ nn (lw.needs_three a) f v e);
+    makes = λ f v e. h.makes f v (named _ _ nm (lw.makes_three a) f v e);
+    turns = λ f v e. naming _ _ nm (lw.makes_three a) f v (h.turns f v e);
   }
 
   row_fit : Fits row g required → Fit m g required a
   row_fit h = record {
-    needs = λ f v e. h.needs f v (naming (m.needs a) row.needs nn (lw.needs_three a) f v e);
-    makes = λ f v e. h.makes f v (naming (m.makes a) row.makes nm (lw.makes_three a) f v e);
-    turns = λ f v e. named (m.makes a) row.makes nm (lw.makes_three a) f v (h.turns f v e);
+    needs = λ f v e. h.needs f v (naming _ _ nn (lw.needs_three a) f v e);
+    makes = λ f v e. h.makes f v (naming _ _ nm (lw.makes_three a) f v e);
+    turns = λ f v e. named _ _ nm (lw.makes_three a) f v (h.turns f v e);
   }
 
-  module _ (rest less left : ActionSet) (drops : (b : ℕ) → among less b ≡ (among rest b && not (eqb b a))) (made agreed wanted : Literals) (was : Looked m g required rest left made agreed wanted) where
-    pub look_past : (Fits row g required → ⊥) → Looked m g required less left made agreed wanted
+  module _ (rest less : ActionSet) (s : Survey) (drops : (b : ℕ) → among less b ≡ (among rest b && not (eqb b a))) (was : Looked m g required rest s) where
+    pub look_past : (Fits row g required → ⊥) → Looked m g required less s
     look_past unfit = record {
       rests = λ b k. was.rests b (smaller (among rest) (among less) a drops b k);
       from = was.from;
@@ -134,19 +125,14 @@ module _ (m : Meaning) (lw : Lawful m) (g : StageMasks) (required : Literals) (a
       wanting = was.wanting;
     }
 
-    pub look_more : (more : ActionSet) → Adds left a more → a < 128 → among rest a ≡ true → Fits row g required
-        → (made' agreed' wanted' : Literals)
-        → ((f : ℕ) (v : Bool) → has made' f v ≡ (has made f v || has row.makes f v))
-        → ((f : ℕ) (v : Bool) → has agreed' f v ≡ (has agreed f v && has row.makes f v))
-        → ((f : ℕ) (v : Bool) → has wanted' f v ≡ (has wanted f v && has row.needs f v))
-        → Looked m g required less more made' agreed' wanted'
-    look_more more adds small there good made' agreed' wanted' hm ha hw = record {
+    pub look_more : (t : Survey) → Joins s a row t → a < 128 → among rest a ≡ true → Fits row g required → Looked m g required less t
+    look_more t j small there good = record {
       rests = λ b k. was.rests b (smaller (among rest) (among less) a drops b k);
-      from = either left more a adds small (λ b. among g.left b ≡ true) was.from (was.rests a there);
-      fit = either left more a adds small (λ b. Fit m g required b) was.fit (row_fit good);
+      from = either s.left t.left a j.left small (λ b. among g.left b ≡ true) was.from (was.rests a there);
+      fit = either s.left t.left a j.left small (λ b. Fit m g required b) was.fit (row_fit good);
       stays = λ b k n h. elim (gone (among rest) (among less) a drops b n)
-          [ inl x ↦ old left more a adds small b (was.stays b k x h) | inr x ↦ subst (λ (y : ℕ). among more y ≡ true) (sym x) (new left more a adds small) ];
-      making = joined_more left more a adds small m.makes row.makes made made' nm (lw.makes_three a) was.making hm;
-      agreeing = met_more left more a adds small m.makes row.makes agreed agreed' nm (lw.makes_three a) m.facts was.agreeing ha;
-      wanting = met_more left more a adds small m.needs row.needs wanted wanted' nn (lw.needs_three a) m.facts was.wanting hw;
+          [ inl x ↦ old s.left t.left a j.left small b (was.stays b k x h) | inr x ↦ subst (λ (y : ℕ). among t.left y ≡ true) (sym x) (new s.left t.left a j.left small) ];
+      making = joined_more s.left t.left a j.left small m.makes row.makes s.made t.made nm (lw.makes_three a) was.making j.made;
+      agreeing = met_more s.left t.left a j.left small m.makes row.makes s.agreed t.agreed nm (lw.makes_three a) m.facts was.agreeing j.agreed;
+      wanting = met_more s.left t.left a j.left small m.needs row.needs s.wanted t.wanted nn (lw.needs_three a) m.facts was.wanting j.wanted;
     }

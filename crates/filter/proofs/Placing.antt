@@ -4,7 +4,7 @@ use Rattle.std.proofs.Common.{◌≡◌, ℕ, suc, ◌+◌, ◌<◌, ◌≤◌, 
 use Rattle.std.proofs.Math.Dec.{eqb}
 use Rattle.std.proofs.lemmas.List.Sums.{sum_by-set}
 use Rattle.std.proofs.lemmas.Bool.{cases_eq, cases_lt, eqb-true, eq-eqb, false≢true}
-use Rattle.sets.specs.declared.actions.ActionSet.{ActionSet}
+use Rattle.sets.specs.Sets.{ActionSet}
 use Rattle.sets.specs.declared.literals.Literals.{Literals}
 use Rattle.filter.specs.declared.part.Part.{Part}
 use Rattle.filter.specs.declared.stage.StageMasks.{StageMasks}
@@ -74,25 +74,25 @@ module _ (p : Part) (i : ℕ) (h : StageMasks) (q : Part) (pl : Placed p i h q) 
       let y : sum_by bulk q.steps ≡ sum_by bulk (set p.steps i h.left) = ap (sum_by bulk) pl.steps in
       omega arith
 
-pub same_literals : (v w : Literals) → v.trues ≡ w.trues → v.falses ≡ w.falses → v ≡ w
-same_literals v w a b = ap₂ (λ (x y : ℕ). record { trues = x; falses = y }) a b
+pub same_literals : (v w : Literals) → v.trues.bits ≡ w.trues.bits → v.falses.bits ≡ w.falses.bits → v ≡ w
+same_literals v w a b = ap₂ (λ (x y : ℕ). record { trues = record { bits = x }; falses = record { bits = y } }) a b
 
 -- literals that are not the same, and no more in either word, weigh less
-pub lighter : (v w : Literals) → v.trues ≤ w.trues → v.falses ≤ w.falses → (v ≡ w → ⊥) → size v < size w
+pub lighter : (v w : Literals) → v.trues.bits ≤ w.trues.bits → v.falses.bits ≤ w.falses.bits → (v ≡ w → ⊥) → size v < size w
 lighter v w a b ne =
     elim (cases_lt (size v) (size w)) [
       | inl l ↦ l
-      | inr l ↦ let x : v.trues ≡ w.trues = omega arith in let y : v.falses ≡ w.falses = omega arith in absurd (ne (same_literals v w x y))
+      | inr l ↦ let x : v.trues.bits ≡ w.trues.bits = omega arith in let y : v.falses.bits ≡ w.falses.bits = omega arith in absurd (ne (same_literals v w x y))
     ]
 
 -- what the derived `!=` of literals says
 abbrev pub Differs : Bool → Literals → Literals → Type 0
-Differs r v w = r ≡ not (eqb v.trues w.trues && eqb v.falses w.falses)
+Differs r v w = r ≡ not (eqb v.trues.bits w.trues.bits && eqb v.falses.bits w.falses.bits)
 
 pub unequal : (r : Bool) (v w : Literals) → Differs r v w → (r ≡ false → v ≡ w) × (r ≡ true → v ≡ w → ⊥)
-unequal r v w = go (eqb v.trues w.trues) (eqb v.falses w.falses) refl refl
+unequal r v w = go (eqb v.trues.bits w.trues.bits) (eqb v.falses.bits w.falses.bits) refl refl
   where
-    go : (a b : Bool) → eqb v.trues w.trues ≡ a → eqb v.falses w.falses ≡ b → r ≡ not (a && b) → (r ≡ false → v ≡ w) × (r ≡ true → v ≡ w → ⊥)
+    go : (a b : Bool) → eqb v.trues.bits w.trues.bits ≡ a → eqb v.falses.bits w.falses.bits ≡ b → r ≡ not (a && b) → (r ≡ false → v ≡ w) × (r ≡ true → v ≡ w → ⊥)
     go true true p q k = (λ _. same_literals v w (eqb-true _ _ p) (eqb-true _ _ q), λ t. absurd (false≢true (sym k ∙ t)))
-    go true false p q k = (λ f. absurd (false≢true (sym f ∙ k)), λ _ s. false≢true (sym q ∙ eq-eqb _ _ (ap (λ (x : Literals). x.falses) s)))
-    go false b p q k = (λ f. absurd (false≢true (sym f ∙ k)), λ _ s. false≢true (sym p ∙ eq-eqb _ _ (ap (λ (x : Literals). x.trues) s)))
+    go true false p q k = (λ f. absurd (false≢true (sym f ∙ k)), λ _ s. false≢true (sym q ∙ eq-eqb _ _ (ap (λ (x : Literals). x.falses.bits) s)))
+    go false b p q k = (λ f. absurd (false≢true (sym f ∙ k)), λ _ s. false≢true (sym p ∙ eq-eqb _ _ (ap (λ (x : Literals). x.trues.bits) s)))

@@ -1,9 +1,9 @@
 -- What one revision of a stage leaves is right: each line of it is one rule, so a settled stage below loses nothing, and
 -- where the values before stayed as they were no rule applies to what is left.
 use Rattle.std.proofs.Common.{◌≡◌, ℕ, ◌^◌, ◌<◌, Bool, true, false, not, ◌&&◌, ◌||◌, ltb, ◌⊎◌, sym, refl, ◌∙◌, subst, inl, inr}
-use Rattle.std.proofs.lemmas.Bool.{cases_Bool, or_cases, or_from, or_parts, and_parts, and_from, both_ways, not-true, not_from_false, ltb-true, lt-ltb}
+use Rattle.std.proofs.lemmas.Bool.{cases_Bool, or_cases, or_from, or_parts, and_parts, and_from, both_ways, not-true, not_from_false, ltb-true, lt-ltb, true_from_ne_false, false_from_ne_true}
 use Rattle.sets.proofs.BitLaws.{sub_le}
-use Rattle.sets.specs.Sets.{has, among}
+use Rattle.sets.specs.Sets.{has, among, member}
 use Rattle.sets.specs.declared.literals.Literals.{Literals}
 use Rattle.tasks.specs.Meaning.{Meaning, Lawful, value}
 use Rattle.filter.specs.declared.stage.StageMasks.{StageMasks}
@@ -11,16 +11,16 @@ use Rattle.filter.specs.declared.stage.Survey.{Survey}
 use Rattle.filter.specs.Kernel.{Fit, Surveyed}
 use Rattle.filter.specs.Revising.{Revised, Fewer, StageBelow, OfTask, view}
 use Rattle.filter.specs.Rules.{Stage, Settled}
-use Rattle.filter.proofs.Looking.{stands, falls, decided, need_fact, made_fact}
+use Rattle.filter.proofs.Looking.{decided, need_fact, made_fact}
 use Rattle.filter.proofs.Values.{not_both, opposed}
 
 -- a test that is false above is false below
 pub down : (x y : Bool) → (x ≡ true → y ≡ true) → y ≡ false → x ≡ false
-down x y h e = falls x (λ k. both_ways y e (h k))
+down x y h e = false_from_ne_true x (λ k. both_ways y e (h k))
 
 -- the words of a stage are of their widths
 abbrev pub Sized : StageMasks → Type 0
-Sized g = (g.before.trues < 2 ^ 64) × (g.before.falses < 2 ^ 64) × (g.left.bits < 2 ^ 128) × (g.after.trues < 2 ^ 64) × (g.after.falses < 2 ^ 64)
+Sized g = (g.before.trues.bits < 2 ^ 64) × (g.before.falses.bits < 2 ^ 64) × (g.left.bits < 2 ^ 128) × (g.after.trues.bits < 2 ^ 64) × (g.after.falses.bits < 2 ^ 64)
 
 module _ (m : Meaning) (lw : Lawful m) (g : StageMasks) (all required : Literals) (s : Survey) (look : Surveyed m g required s) (before after : Literals)
     (all_is : (f : ℕ) (v : Bool) → has all f v ≡ ltb f m.facts)
@@ -33,15 +33,15 @@ module _ (m : Meaning) (lw : Lawful m) (g : StageMasks) (all required : Literals
 
     after_parts : (f : ℕ) (v : Bool) → has after f v ≡ true → (has g.after f v ≡ true) × ((has g.before f v || has s.made f v) ≡ true) × (has s.agreed f (not v) ≡ false)
     after_parts f v k =
-        let p = and_parts (has g.after f v && (has g.before f v || has s.made f v)) (not (has s.agreed f (not v))) (sym (after_is f v) ∙ k) in
-        let q = and_parts (has g.after f v) (has g.before f v || has s.made f v) p.0 in
-        (q.0, q.1, not-true (has s.agreed f (not v)) p.1)
+        let p = and_parts _ _ (sym (after_is f v) ∙ k) in
+        let q = and_parts _ _ p.0 in
+        (q.0, q.1, not-true _ p.1)
 
     before_parts : (f : ℕ) (v : Bool) → has before f v ≡ true → (has g.before f v ≡ true) × ((has after f v || has s.made f (not v)) ≡ true) × (has s.wanted f (not v) ≡ false)
     before_parts f v k =
-        let p = and_parts (has g.before f v && (has after f v || has s.made f (not v))) (not (has s.wanted f (not v))) (sym (before_is f v) ∙ k) in
-        let q = and_parts (has g.before f v) (has after f v || has s.made f (not v)) p.0 in
-        (q.0, q.1, not-true (has s.wanted f (not v)) p.1)
+        let p = and_parts _ _ (sym (before_is f v) ∙ k) in
+        let q = and_parts _ _ p.0 in
+        (q.0, q.1, not-true _ p.1)
 
     less : StageBelow (view h) (view g)
     less = record { before = λ f v k. (before_parts f v k).0; left = look.from; after = λ f v k. (after_parts f v k).0 }
@@ -49,21 +49,21 @@ module _ (m : Meaning) (lw : Lawful m) (g : StageMasks) (all required : Literals
     module _ (x : Stage) (settled_x : Settled m x) (own : OfTask m x) (sub : StageBelow x (view g)) where
       fit : (a : ℕ) → x.left a ≡ true → Fit m g required a
       fit a k = record {
-        needs = λ f v n. stands (has g.before f v) (λ e. settled_x.needs_the_impossible a k (f, v, need_fact m lw a f v n, n, down (x.before f v) (has g.before f v) (sub.before f v) e));
-        makes = λ f v n. stands (has g.after f v) (λ e. settled_x.makes_the_impossible a k (f, v, made_fact m lw a f v n, n, down (x.after f v) (has g.after f v) (sub.after f v) e));
+        needs = λ f v n. true_from_ne_false _ (λ e. settled_x.needs_the_impossible a k (f, v, need_fact m lw a f v n, n, down _ _ (sub.before f v) e));
+        makes = λ f v n. true_from_ne_false _ (λ e. settled_x.makes_the_impossible a k (f, v, made_fact m lw a f v n, n, down _ _ (sub.after f v) e));
         turns = λ f v n. turned f v (sym (required_is f v) ∙ n);
       }
         where
           turned : (f : ℕ) (v : Bool) → ((has all f v && not (has g.before f v)) && not (has g.after f (not v))) ≡ true → m.makes a f ≡ value v
           turned f v n =
-              let p = and_parts (has all f v && not (has g.before f v)) (not (has g.after f (not v))) n in
-              let o = and_parts (has all f v) (not (has g.before f v)) p.0 in
-              decided (m.makes a f) v (lw.makes_three a f) (λ z. settled_x.misses_a_required_change a k (
+              let p = and_parts _ _ n in
+              let o = and_parts _ _ p.0 in
+              decided _ v (lw.makes_three a f) (λ z. settled_x.misses_a_required_change a k (
                 f,
                 v,
-                ltb-true f m.facts (sym (all_is f v) ∙ o.0),
-                down (x.before f v) (has g.before f v) (sub.before f v) (not-true (has g.before f v) o.1),
-                down (x.after f (not v)) (has g.after f (not v)) (sub.after f (not v)) (not-true (has g.after f (not v)) p.1),
+                ltb-true _ _ (sym (all_is f v) ∙ o.0),
+                down _ _ (sub.before f v) (not-true _ o.1),
+                down _ _ (sub.after f (not v)) (not-true _ p.1),
                 z,
               ))
 
@@ -74,31 +74,31 @@ module _ (m : Meaning) (lw : Lawful m) (g : StageMasks) (all required : Literals
       keep_after f v k =
           let lt : f < m.facts = own.after f v k in
           let made : (has g.before f v || has s.made f v) ≡ true =
-          stands (has g.before f v || has s.made f v) (λ e.
-          let o = or_parts (has g.before f v) (has s.made f v) e in
+          true_from_ne_false _ (λ e.
+          let o = or_parts _ _ e in
           settled_x.neither_possible_before_nor_made f v lt k (
-            down (x.before f v) (has g.before f v) (sub.before f v) o.0,
-            λ a n z. both_ways (has s.made f v) o.1 (look.making.each a f v (keep_left a n) z),
+            down _ _ (sub.before f v) o.0,
+            λ a n z. both_ways _ o.1 (look.making.each a f v (keep_left a n) z),
           )) in
           let free : has s.agreed f (not v) ≡ false =
-          falls (has s.agreed f (not v)) (λ e. settled_x.opposite_always_made f v lt k (λ a n. look.agreeing.each a f (not v) (keep_left a n) e ∙ sym (opposed v))) in
-          after_is f v ∙ and_from (has g.after f v && (has g.before f v || has s.made f v)) (not (has s.agreed f (not v)))
-          (and_from (has g.after f v) (has g.before f v || has s.made f v) (sub.after f v k) made) (not_from_false (has s.agreed f (not v)) free)
+          false_from_ne_true _ (λ e. settled_x.opposite_always_made f v lt k (λ a n. look.agreeing.each a f (not v) (keep_left a n) e ∙ sym (opposed v))) in
+          after_is f v ∙ and_from _ _
+          (and_from _ _ (sub.after f v k) made) (not_from_false _ free)
 
       keep_before : (f : ℕ) (v : Bool) → x.before f v ≡ true → has before f v ≡ true
       keep_before f v k =
           let lt : f < m.facts = own.before f v k in
           let undone : (has after f v || has s.made f (not v)) ≡ true =
-          stands (has after f v || has s.made f (not v)) (λ e.
-          let o = or_parts (has after f v) (has s.made f (not v)) e in
+          true_from_ne_false _ (λ e.
+          let o = or_parts _ _ e in
           settled_x.neither_possible_after_nor_undone f v lt k (
-            down (x.after f v) (has after f v) (keep_after f v) o.0,
-            λ a n z. both_ways (has s.made f (not v)) o.1 (look.making.each a f (not v) (keep_left a n) (z ∙ opposed v)),
+            down _ _ (keep_after f v) o.0,
+            λ a n z. both_ways _ o.1 (look.making.each a f (not v) (keep_left a n) (z ∙ opposed v)),
           )) in
           let free : has s.wanted f (not v) ≡ false =
-          falls (has s.wanted f (not v)) (λ e. settled_x.opposite_always_needed f v lt k (λ a n. look.wanting.each a f (not v) (keep_left a n) e ∙ sym (opposed v))) in
-          before_is f v ∙ and_from (has g.before f v && (has after f v || has s.made f (not v))) (not (has s.wanted f (not v)))
-          (and_from (has g.before f v) (has after f v || has s.made f (not v)) (sub.before f v k) undone) (not_from_false (has s.wanted f (not v)) free)
+          false_from_ne_true _ (λ e. settled_x.opposite_always_needed f v lt k (λ a n. look.wanting.each a f (not v) (keep_left a n) e ∙ sym (opposed v))) in
+          before_is f v ∙ and_from _ _
+          (and_from _ _ (sub.before f v k) undone) (not_from_false _ free)
 
       keeps : StageBelow x (view h)
       keeps = record { before = keep_before; left = keep_left; after = keep_after }
@@ -117,7 +117,7 @@ module _ (m : Meaning) (lw : Lawful m) (g : StageMasks) (all required : Literals
       taken f v was gone =
           elim (cases_Bool (has s.agreed f (not v))) [
             | inl e ↦ inl e
-            | inr e ↦ inr (or_parts (has g.before f v) (has s.made f v) (falls (has g.before f v || has s.made f v) (λ k. both_ways (has after f v) gone
+            | inr e ↦ inr (or_parts _ _ (false_from_ne_true _ (λ k. both_ways _ gone
                 (after_is f v ∙ and_from _ _ (and_from _ _ was k) (not_from_false _ e)))))
           ]
 
@@ -126,7 +126,7 @@ module _ (m : Meaning) (lw : Lawful m) (g : StageMasks) (all required : Literals
       makes_none a f v k z gone =
           elim (taken f v ((look.fit a k).makes f v z) gone) [
             | inl e ↦ not_both (m.makes a f) v z (look.agreeing.each a f (not v) k e ∙ sym (opposed v))
-            | inr e ↦ both_ways (has s.made f v) e.1 (look.making.each a f v k z)
+            | inr e ↦ both_ways _ e.1 (look.making.each a f v k z)
           ]
 
       -- an action left misses no change that is required
@@ -138,7 +138,7 @@ module _ (m : Meaning) (lw : Lawful m) (g : StageMasks) (all required : Literals
               | inr e ↦ absurd (empty v no_before (subst (λ (y : Literals). has y f (not v) ≡ false) (sym same_before) e.0))
             ]
             | inr off ↦ (look.fit a k).turns f v
-                (required_is f v ∙ and_from _ _ (and_from _ _ (all_is f v ∙ lt-ltb f m.facts lt) (not_from_false _ (old_before f v false no_before))) (not_from_false _ off))
+                (required_is f v ∙ and_from _ _ (and_from _ _ (all_is f v ∙ lt-ltb _ _ lt) (not_from_false _ (old_before f v false no_before))) (not_from_false _ off))
           ]
         where
           not_not : (b : Bool) → not (not b) ≡ b
@@ -146,32 +146,32 @@ module _ (m : Meaning) (lw : Lawful m) (g : StageMasks) (all required : Literals
           not_not false = refl
 
           empty : (b : Bool) → has before f b ≡ false → has before f (not b) ≡ false → ⊥
-          empty true x y = both_ways (has before f true || has before f false) (or_from _ _ x y) (some_before f lt)
-          empty false x y = both_ways (has before f true || has before f false) (or_from _ _ y x) (some_before f lt)
+          empty true x y = both_ways _ (or_from _ _ x y) (some_before f lt)
+          empty false x y = both_ways _ (or_from _ _ y x) (some_before f lt)
 
       settled_h : Settled m (view h)
       settled_h = record {
-        neither_possible_before_nor_made = λ f v lt k r. elim (or_cases (has g.before f v) (has s.made f v) (after_parts f v k).1)
-            [ inl e ↦ both_ways (has g.before f v) (old_before f v false r.0) e | inr e ↦ both_ways (has s.made f v) (unmade f v r.1) e ];
-        opposite_always_made = λ f v lt k r. both_ways (has s.agreed f (not v)) (after_parts f v k).2
+        neither_possible_before_nor_made = λ f v lt k r. elim (or_cases _ _ (after_parts f v k).1)
+            [ inl e ↦ both_ways _ (old_before f v false r.0) e | inr e ↦ both_ways _ (unmade f v r.1) e ];
+        opposite_always_made = λ f v lt k r. both_ways _ (after_parts f v k).2
             (look.agreeing.only f (not v) lt (λ a n. r a n ∙ opposed v));
-        neither_possible_after_nor_undone = λ f v lt k r. elim (or_cases (has after f v) (has s.made f (not v)) (before_parts f v k).1)
-            [ inl e ↦ both_ways (has after f v) r.0 e | inr e ↦ both_ways (has s.made f (not v)) (unmade f (not v) (λ a n z. r.1 a n (z ∙ sym (opposed v)))) e ];
-        opposite_always_needed = λ f v lt k r. both_ways (has s.wanted f (not v)) (before_parts f v k).2
+        neither_possible_after_nor_undone = λ f v lt k r. elim (or_cases _ _ (before_parts f v k).1)
+            [ inl e ↦ both_ways _ r.0 e | inr e ↦ both_ways _ (unmade f (not v) (λ a n z. r.1 a n (z ∙ sym (opposed v)))) e ];
+        opposite_always_needed = λ f v lt k r. both_ways _ (before_parts f v k).2
             (look.wanting.only f (not v) lt (λ a n. r a n ∙ opposed v));
-        needs_the_impossible = λ a k r. both_ways (has g.before r.0 r.1) (old_before r.0 r.1 false r.4) ((look.fit a k).needs r.0 r.1 r.3);
+        needs_the_impossible = λ a k r. both_ways _ (old_before r.0 r.1 false r.4) ((look.fit a k).needs r.0 r.1 r.3);
         makes_the_impossible = λ a k r. makes_none a r.0 r.1 k r.3 r.4;
         misses_a_required_change = λ a k r. r.5 (misses_none a r.0 r.1 k r.2 r.3 r.4);
       }
 
     fewer : Sized g → Sized h → Fewer h g
-    unfolding has among
+    unfolding has member
     fewer k l = record {
-      before_trues = sub_le 64 before.trues g.before.trues l.0 k.0 (λ f n. less.before f true n);
-      before_falses = sub_le 64 before.falses g.before.falses l.1 k.1 (λ f n. less.before f false n);
+      before_trues = sub_le 64 before.trues.bits g.before.trues.bits l.0 k.0 (λ f n. less.before f true n);
+      before_falses = sub_le 64 before.falses.bits g.before.falses.bits l.1 k.1 (λ f n. less.before f false n);
       actions = sub_le 128 s.left.bits g.left.bits l.2 k.2 less.left;
-      after_trues = sub_le 64 after.trues g.after.trues l.3 k.3 (λ f n. less.after f true n);
-      after_falses = sub_le 64 after.falses g.after.falses l.4 k.4 (λ f n. less.after f false n);
+      after_trues = sub_le 64 after.trues.bits g.after.trues.bits l.3 k.3 (λ f n. less.after f true n);
+      after_falses = sub_le 64 after.falses.bits g.after.falses.bits l.4 k.4 (λ f n. less.after f false n);
     }
 
     pub revised : Sized g → Sized h → Revised m g h

@@ -2,17 +2,17 @@
 -- is consistent.
 use Rattle.std.proofs.Common.{◌≡◌, ℕ, zero, suc, ◌^◌, ◌<◌, ◌≤◌, min, Bool, true, false, not, ◌&&◌, ◌||◌, eqb, ltb, Some, None, sym, refl, ap, ◌∙◌, subst, inl, inr, arith}
 use Rattle.std.proofs.lemmas.Bool.{both_ways, and_parts, and_cases, ltb-true, lt-ltb}
-use Rattle.sets.specs.Sets.{has}
+use Rattle.sets.specs.Sets.{has, StageSet, marked}
 use Rattle.sets.specs.declared.literals.Literals.{Literals}
 use Rattle.tasks.specs.Meaning.{Meaning}
+use Rattle.filter.specs.declared.outcome.Outcome.TheVariants.{Wiped}
 use Rattle.filter.specs.declared.part.Part.{Part}
-use Rattle.filter.specs.declared.stages.StageSet.{StageSet}
 use Rattle.filter.specs.Structures.{Structure, Below}
 use Rattle.filter.specs.Rules.{stage}
 use Rattle.filter.specs.Filtering.{Consistent, ConsistentStage}
 use Rattle.filter.specs.Kernel.{Covers}
 use Rattle.filter.specs.Parts.{step_at, level_at, SamePast}
-use Rattle.filter.specs.Stages.{marked, ConsistentButAt}
+use Rattle.filter.specs.Stages.{ConsistentButAt}
 use Rattle.filter.specs.Turns.{raw, burden, Factual, Narrowed, Turned, Progressed}
 use Rattle.filter.specs.Loops.{Settling}
 use Rattle.filter.proofs.Looking.{gone}
@@ -56,8 +56,8 @@ module _ (m : Meaning) (p : Part) (due low first : StageSet) (le : p.round ≤ 3
   }
 
   pub firm_first : ConsistentButAt due m (raw p) → ConsistentButAt first m (raw p)
-  firm_first was i l n = was i l (elim (and_cases (marked due i) (marked low i) (sym (first_is i) ∙ n))
-      [ inl x ↦ x | inr x ↦ absurd (both_ways (marked low i) x (low_is i ∙ lt-ltb i (min p.round 32) (omega arith))) ])
+  firm_first was i l n = was i l (elim (and_cases _ _ (sym (first_is i) ∙ n))
+      [ inl x ↦ x | inr x ↦ absurd (both_ways _ x (low_is i ∙ lt-ltb _ _ (omega arith))) ])
 
 module _ (m : Meaning) (o : Part) (first : StageSet) (p : Part) (due rest : StageSet) (i : ℕ) (drops : (j : ℕ) → marked rest j ≡ (marked due j && not (eqb j i))) (was : Progressed m o first p due) where
   pub gone_on : (q : Part) (next : StageSet) → Turned m p i rest (Some next) q → Progressed m o first q next
@@ -70,7 +70,7 @@ module _ (m : Meaning) (o : Part) (first : StageSet) (p : Part) (due rest : Stag
             (elim (gone (marked due) (marked rest) i drops j off) [ inl x ↦ x | inr e ↦ absurd (other e) ]));
       }
 
-  pub lost : (q : Part) → Turned m p i rest None q → Settling m o first false q
+  pub lost : (q : Part) → Turned m p i rest None q → Settling m o first Wiped q
   lost q now = (
     λ x co fa sub. now.0 x co fa (was.narrowed.keeps x co fa sub),
     ap (λ (y : Part). y.round) now.1 ∙ was.narrowed.round,
@@ -108,8 +108,3 @@ module _ (m : Meaning) (o : Part) (first : StageSet) (p : Part) (due : StageSet)
   unwhole hole x co fa sub =
       let low = was.narrowed.keeps x co fa sub in
       hole (covering m.facts all (level_at p 0) all_is (λ f lt. rise _ _ _ _ (low.possible 0 f true (omega arith)) (low.possible 0 f false (omega arith)) (co.value 0 f (omega arith) lt)))
-
--- by what the last test answers
-pub either : (m : Meaning) (p q : Part) (due : StageSet) (r : Bool) → (r ≡ true → Settling m p due true q) → (r ≡ false → Settling m p due false q) → Settling m p due r q
-either m p q due true a b = a refl
-either m p q due false a b = b refl

@@ -68,7 +68,7 @@ module _ (m : Meaning) (lw : Lawful m) (p : Structure) (co : Consistent m p) (an
   shows : (j : ℕ) → j ≤ length acts → (f : ℕ) → f < m.facts → p.possible j f (bit (at j) f) ≡ true
   shows j l f lt =
       let b = bit (at j) f in
-      elim (or_cases (p.possible j f b) (p.possible j f (not b)) (some j l f lt b)) [ inl x ↦ x | inr y ↦ not_self b (sym (fixed j l f (not b) lt y)) ]
+      elim (or_cases _ _ (some j l f lt b)) [ inl x ↦ x | inr y ↦ not_self b (sym (fixed j l f (not b) lt y)) ]
 
   pub level_is : (j : ℕ) → j ≤ length acts → state_of m p j ≡ at j
   level_is j l = packed_same _ (λ f. bit (at j) f) m.facts (λ f lt. one f lt (bit (at j) f) refl) ∙ proper m (start_state m) acts j (repacked _ m.facts)

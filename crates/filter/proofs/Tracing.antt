@@ -1,6 +1,6 @@
 -- The trace of a plan is consistent: its actions meet their needs and what they make is so after them. What filtering
 -- leaves has it, since it is the largest.
-use Rattle.std.proofs.Common.{◌≡◌, ℕ, zero, suc, ◌<◌, ◌≤◌, Bool, true, false, not, ◌&&◌, ◌||◌, eqb, ltb, leb, List, [], ◌∷◌, length, get_or, sym, refl, ap, ◌∙◌, subst, inl, inr, arith}
+use Rattle.std.proofs.Common.{◌≡◌, ℕ, zero, suc, ◌<◌, ◌≤◌, Bool, true, false, not, ◌||◌, List, [], ◌∷◌, length, get_or, sym, refl, ap, ◌∙◌, subst, inl, inr, arith}
 use Rattle.std.proofs.lemmas.Bool.{both_ways, and_parts, and_from, and_cases, or_left, or_right, eqb-true, eq-eqb, lt-ltb, le-leb}
 use Rattle.sets.specs.Bits.{bit}
 use Rattle.sets.specs.Signs.{is}
@@ -37,25 +37,25 @@ module _ (m : Meaning) (lw : Lawful m) (acts : List ℕ) (sol : Solves m acts) w
   at i = state_at m (start_state m) acts i
 
   is_shown : (i f : ℕ) (v : Bool) → (trace m acts).possible i f v ≡ true → bit (at i) f ≡ v
-  is_shown i f v e = is_value v (bit (at i) f) (and_parts (leb i (length acts) && ltb f m.facts) (is v (bit (at i) f)) e).1
+  is_shown i f v e = is_value v (bit (at i) f) (and_parts _ _ e).1
 
   is_hidden : (i f : ℕ) (v : Bool) → i ≤ length acts → f < m.facts → (trace m acts).possible i f v ≡ false → bit (at i) f ≡ not v
   is_hidden i f v le lt e =
-      elim (and_cases (leb i (length acts) && ltb f m.facts) (is v (bit (at i) f)) e)
-      [ inl x ↦ absurd (both_ways _ x (and_from _ _ (le-leb i (length acts) le) (lt-ltb f m.facts lt))) | inr y ↦ hidden (bit (at i) f) v y ]
+      elim (and_cases _ _ e)
+      [ inl x ↦ absurd (both_ways _ x (and_from _ _ (le-leb _ _ le) (lt-ltb _ _ lt))) | inr y ↦ hidden (bit (at i) f) v y ]
 
   is_showing : (i f : ℕ) (v : Bool) → i ≤ length acts → f < m.facts → bit (at i) f ≡ v → (trace m acts).possible i f v ≡ true
-  is_showing i f v le lt e = and_from _ _ (and_from _ _ (le-leb i (length acts) le) (lt-ltb f m.facts lt)) (value_is v (bit (at i) f) e)
+  is_showing i f v le lt e = and_from _ _ (and_from _ _ (le-leb _ _ le) (lt-ltb _ _ lt)) (value_is v (bit (at i) f) e)
 
   module _ (i : ℕ) (lt : i < length acts) where
     abbrev act : ℕ
     act = get_or acts i 0
 
     own : (trace m acts).left i act ≡ true
-    own = and_from _ _ (lt-ltb i (length acts) lt) (eq-eqb act act refl)
+    own = and_from _ _ (lt-ltb _ _ lt) (eq-eqb _ _ refl)
 
     same : (b : ℕ) → (trace m acts).left i b ≡ true → b ≡ act
-    same b e = eqb-true b act (and_parts (ltb i (length acts)) (eqb b act) e).1
+    same b e = eqb-true _ _ (and_parts _ _ e).1
 
     next : (f : ℕ) → f < m.facts → bit (at (suc i)) f ≡ put (m.makes act f) (bit (at i) f)
     next f l = ap (λ s. bit s f) (state_next m (start_state m) acts i lt) ∙ bit_after m (at i) act f l
@@ -120,10 +120,10 @@ module _ (m : Meaning) (lw : Lawful m) (acts : List ℕ) (sol : Solves m acts) w
     left = λ i b lt e.
         let below : i < length acts = subst (λ (n : ℕ). i < n) (sym s.round) lt in
         let may : m.usable b ≡ true = subst (λ (x : ℕ). m.usable x ≡ true) (sym (same i below b e)) (applies_at m (start_state m) acts i below sol).usable in
-        and_from _ _ (and_from _ _ (lt-ltb i p.round lt) (lt-ltb b m.actions (usable_below m lw b may))) (s.left i b lt e);
+        and_from _ _ (and_from _ _ (lt-ltb _ _ lt) (lt-ltb _ _ (usable_below m lw b may))) (s.left i b lt e);
     possible = λ i f v le e.
-        let w = and_parts (leb i (length acts) && ltb f m.facts) (is v (bit (at i) f)) e in
-        and_from _ _ (and_from _ _ (le-leb i p.round le) (and_parts (leb i (length acts)) (ltb f m.facts) w.0).1) (s.possible i f v le e);
+        let w = and_parts _ _ e in
+        and_from _ _ (and_from _ _ (le-leb _ _ le) (and_parts _ _ w.0).1) (s.possible i f v le e);
   }
 
 pub traced : TheTraceOfAPlanIsConsistent

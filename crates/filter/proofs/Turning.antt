@@ -1,22 +1,19 @@
 -- One turn: a revised stage in place narrows the part, and each stage that is not due is consistent: revised with the
 -- level before it unchanged, or not touched at all.
 use Rattle.std.proofs.Common.{◌≡◌, ℕ, suc, ◌<◌, ◌≤◌, Bool, true, false, ◌||◌, ltb, ◌⊎◌, Some, sym, refl, ◌∙◌, subst, inl, inr, arith}
-use Rattle.std.proofs.lemmas.Bool.{both_ways, cases_eq, cases_Bool, or_cases, or_left, or_right, ltb-true, lt-ltb}
-use Rattle.sets.specs.Sets.{has, among}
+use Rattle.std.proofs.lemmas.Bool.{both_ways, cases_eq, cases_Bool, or_cases, or_left, or_right, ltb-true, lt-ltb, false_from_ne_true}
+use Rattle.sets.specs.Sets.{has, among, StageSet, marked}
 use Rattle.sets.specs.declared.literals.Literals.{Literals}
 use Rattle.tasks.specs.Meaning.{Meaning}
 use Rattle.filter.specs.declared.part.Part.{Part}
 use Rattle.filter.specs.declared.stage.StageMasks.{StageMasks}
-use Rattle.filter.specs.declared.stages.StageSet.{StageSet}
 use Rattle.filter.specs.Structures.{Structure, Below}
 use Rattle.filter.specs.Rules.{stage}
 use Rattle.filter.specs.Filtering.{Consistent, ConsistentStage}
 use Rattle.filter.specs.Kernel.{Covers, WholeStage}
 use Rattle.filter.specs.Parts.{step_at, level_at}
 use Rattle.filter.specs.Revising.{Revised, StageBelow, view}
-use Rattle.filter.specs.Stages.{marked}
 use Rattle.filter.specs.Turns.{stage_at, raw, Placed, weight, Factual, Touched, Narrowed, Turned}
-use Rattle.filter.proofs.Looking.{falls}
 use Rattle.filter.proofs.Placing.{at_level, at_step, step_other, stage_here, same_past, weighs, lighter}
 use Rattle.filter.proofs.Revision.{down}
 
@@ -26,14 +23,14 @@ rise a b c d p q h = elim (or_cases a b h) [ inl e ↦ or_left c d (p e) | inr e
 
 -- a value of each fact, whichever is asked for first
 pub covering : (facts : ℕ) (all v : Literals) → ((f : ℕ) (s : Bool) → has all f s ≡ ltb f facts) → ((f : ℕ) → f < facts → (has v f true || has v f false) ≡ true) → Covers v all
-covering facts all v is h f true e = h f (ltb-true f facts (sym (is f true) ∙ e))
-covering facts all v is h f false e = turned (has v f true) (has v f false) (h f (ltb-true f facts (sym (is f false) ∙ e)))
+covering facts all v is h f true e = h f (ltb-true _ _ (sym (is f true) ∙ e))
+covering facts all v is h f false e = turned (has v f true) (has v f false) (h f (ltb-true _ _ (sym (is f false) ∙ e)))
   where
     turned : (x y : Bool) → (x || y) ≡ true → (y || x) ≡ true
     turned x y k = elim (or_cases x y k) [ inl z ↦ or_right y x z | inr z ↦ or_left y x z ]
 
 pub covered : (facts : ℕ) (all v : Literals) → ((f : ℕ) (s : Bool) → has all f s ≡ ltb f facts) → Covers v all → (f : ℕ) → f < facts → (has v f true || has v f false) ≡ true
-covered facts all v is c f lt = c f true (is f true ∙ lt-ltb f facts lt)
+covered facts all v is c f lt = c f true (is f true ∙ lt-ltb _ _ lt)
 
 module _ (m : Meaning) (p : Part) (i : ℕ) (lt : i < p.round) (le : p.round ≤ 30) (h : StageMasks) (rev : Revised m (stage_at p i) h) (all : Literals) (all_is : (f : ℕ) (v : Bool) → has all f v ≡ ltb f m.facts) where
   -- a consistent structure below the part has its stage below the revised one
@@ -49,7 +46,7 @@ module _ (m : Meaning) (p : Part) (i : ℕ) (lt : i < p.round) (le : p.round ≤
       let st = under x co fa sub in
       let l : i < x.round = omega (arith, sub.round) in
       hole (record {
-        action = λ none. co.action i l (λ a. down (x.left i a) (among h.left a) (st.left a) (none a));
+        action = λ none. co.action i l (λ a. down _ _ (st.left a) (none a));
         before = covering m.facts all h.before all_is (λ f k. rise _ _ _ _ (st.before f true) (st.before f false) (co.value i f (omega arith) k));
         after = covering m.facts all h.after all_is (λ f k. rise _ _ _ _ (st.after f true) (st.after f false) (co.value (suc i) f (omega arith) k));
       })
@@ -87,7 +84,7 @@ module _ (m : Meaning) (p : Part) (i : ℕ) (lt : i < p.round) (le : p.round ≤
     firm j l n was = elim (cases_eq j i) [
       | inl e ↦
           let off : marked next i ≡ false = subst (λ (k : ℕ). marked next k ≡ false) e n in
-          let b : cb ≡ false = falls cb (λ k. both_ways (marked next i) off (tc.here k)) in
+          let b : cb ≡ false = false_from_ne_true _ (λ k. both_ways _ off (tc.here k)) in
           let some : (f : ℕ) → f < m.facts → (has h.before f true || has h.before f false) ≡ true = covered m.facts all h.before all_is whole.before in
           let new : ConsistentStage m (view h) = record {
             settled = rev.settled (kb b) some;
@@ -97,10 +94,10 @@ module _ (m : Meaning) (p : Part) (i : ℕ) (lt : i < p.round) (le : p.round ≤
           } in
           subst (λ (k : ℕ). ConsistentStage m (stage (raw q) k)) (sym e) (subst (λ (x : StageMasks). ConsistentStage m (view x)) (sym (stage_here p i h q pl small)) new)
       | inr d ↦
-          let nd : marked due j ≡ false = falls (marked due j) (λ k. both_ways (marked next j) n (tc.old j k)) in
+          let nd : marked due j ≡ false = false_from_ne_true _ (λ k. both_ways _ n (tc.old j k)) in
           let a : level_at q j ≡ level_at p j =
-          kept j (λ e. absurd (d e)) (λ e. falls ca (λ k. both_ways (marked next j) n (subst (λ (x : ℕ). marked next x ≡ true) (sym e) (tc.later k (subst (λ (x : ℕ). x < p.round) e l))))) in
-          let b : level_at q (suc j) ≡ level_at p (suc j) = kept (suc j) (λ e. falls cb (λ k. both_ways (marked next j) n (tc.prior k j e))) (λ e. absurd (d (omega arith))) in
+          kept j (λ e. absurd (d e)) (λ e. false_from_ne_true _ (λ k. both_ways _ n (subst (λ (x : ℕ). marked next x ≡ true) (sym e) (tc.later k (subst (λ (x : ℕ). x < p.round) e l))))) in
+          let b : level_at q (suc j) ≡ level_at p (suc j) = kept (suc j) (λ e. false_from_ne_true _ (λ k. both_ways _ n (tc.prior k j e))) (λ e. absurd (d (omega arith))) in
           let o : step_at q j ≡ step_at p j = step_other p i h q pl small j d in
           let e : stage_at q j ≡ stage_at p j = cc in
           subst (λ (x : StageMasks). ConsistentStage m (view x)) (sym e) (was nd d)

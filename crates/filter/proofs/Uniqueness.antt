@@ -1,5 +1,5 @@
 -- Two largest structures are below one another, and what is trimmed is equal where it is below both ways.
-use Rattle.std.proofs.Common.{◌≡◌, ℕ, ◌<◌, ◌≤◌, Bool, true, false, ◌&&◌, ltb, leb, sym, refl, ap, ◌∙◌, subst, ap₂}
+use Rattle.std.proofs.Common.{◌≡◌, ℕ, ◌<◌, ◌≤◌, Bool, true, false, sym, refl, ap, ◌∙◌, subst, ap₂}
 use mathlib.Core.Path.{fun_ext}
 use Rattle.std.proofs.lemmas.Bool.{and_parts, ltb-true, leb-true}
 use Rattle.tasks.specs.Meaning.{Meaning}
@@ -23,10 +23,10 @@ same_structure p q r l o =
 module _ (m : Meaning) (p q : Structure) (tp : p ≡ trimmed m p) (pq : Below p q) where
   -- what a trimmed structure has is in range
   left_in : (i a : ℕ) → p.left i a ≡ true → i < p.round
-  left_in i a e = ltb-true i p.round (and_parts (ltb i p.round) (ltb a m.actions) (and_parts (ltb i p.round && ltb a m.actions) (p.left i a) (sym (ap (λ (s : Structure). s.left i a) tp) ∙ e)).0).0
+  left_in i a e = ltb-true _ _ (and_parts _ _ (and_parts _ _ (sym (ap (λ (s : Structure). s.left i a) tp) ∙ e)).0).0
 
   possible_in : (i f : ℕ) (v : Bool) → p.possible i f v ≡ true → i ≤ p.round
-  possible_in i f v e = leb-true i p.round (and_parts (leb i p.round) (ltb f m.facts) (and_parts (leb i p.round && ltb f m.facts) (p.possible i f v) (sym (ap (λ (s : Structure). s.possible i f v) tp) ∙ e)).0).0
+  possible_in i f v e = leb-true _ _ (and_parts _ _ (and_parts _ _ (sym (ap (λ (s : Structure). s.possible i f v) tp) ∙ e)).0).0
 
   left_on : (i a : ℕ) → p.left i a ≡ true → q.left i a ≡ true
   left_on i a e = pq.left i a (subst (λ (n : ℕ). i < n) pq.round (left_in i a e)) e
@@ -37,8 +37,8 @@ module _ (m : Meaning) (p q : Structure) (tp : p ≡ trimmed m p) (pq : Below p 
 pub below_both_ways : (m : Meaning) (p q : Structure) → p ≡ trimmed m p → q ≡ trimmed m q → Below p q → Below q p → p ≡ q
 below_both_ways m p q tp tq pq qp =
     same_structure p q pq.round
-    (λ i a. both_follow (p.left i a) (q.left i a) (left_on m p q tp pq i a) (left_on m q p tq qp i a))
-    (λ i f v. both_follow (p.possible i f v) (q.possible i f v) (possible_on m p q tp pq i f v) (possible_on m q p tq qp i f v))
+    (λ i a. both_follow _ _ (left_on m p q tp pq i a) (left_on m q p tq qp i a))
+    (λ i f v. both_follow _ _ (possible_on m p q tp pq i f v) (possible_on m q p tq qp i f v))
 
 pub one_result : FilteringHasOneResult
 one_result m p s t q r (kept a large) (kept b other) =

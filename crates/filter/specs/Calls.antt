@@ -7,7 +7,7 @@ use Rattle.filter.specs.declared.outcome.Outcome.TheVariants.{Kept, Wiped}
 use Rattle.filter.specs.declared.part.Part.{Part}
 use Rattle.filter.specs.declared.refusal.Refusal.{Refusal}
 use Rattle.filter.specs.declared.refusal.Refusal.TheVariants.{Round}
-use Rattle.filter.specs.declared.stages.StageSet.{StageSet}
+use Rattle.sets.specs.Sets.{StageSet}
 use Rattle.filter.specs.Structures.{Structure, Below, trimmed, bare}
 use Rattle.filter.specs.Filtering.{Consistent, Filtered}
 use Rattle.filter.specs.Parts.{structure, SamePast}

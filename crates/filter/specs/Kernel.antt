@@ -1,7 +1,6 @@
 -- What the inner functions of one stage's revision compute, in the words of its masks.
-use Rattle.std.specs.Prelude.{◌≡◌, ℕ, ◌<◌, Bool, true, false, not, ◌||◌, ℤ, ◌≢◌}
-use Rattle.sets.specs.Sets.{has, among}
-use Rattle.sets.specs.declared.actions.ActionSet.{ActionSet}
+use Rattle.std.specs.Prelude.{◌≡◌, ℕ, ◌<◌, Bool, true, false, not, ◌&&◌, ◌||◌, ℤ, ◌≢◌, ◌==◌, nat_lt}
+use Rattle.sets.specs.Sets.{has, among, ActionSet}
 use Rattle.sets.specs.declared.literals.Literals.{Literals}
 use Rattle.tasks.specs.declared.row.Row.{Row}
 use Rattle.tasks.specs.Meaning.{Meaning, value}
@@ -30,15 +29,22 @@ pub record Met (facts : ℕ) (numbers : ℕ → ℕ → ℤ) (set : ActionSet) (
   pub each : (a f : ℕ) (v : Bool) → among set a ≡ true → has all f v ≡ true → numbers a f ≡ value v
   pub only : (f : ℕ) (v : Bool) → f < facts → ((a : ℕ) → among set a ≡ true → numbers a f ≡ value v) → has all f v ≡ true
 
+-- t is the survey s with action a, which has this row.
+pub record Joins (s : Survey) (a : ℕ) (row : Row) (t : Survey) : Type 0 where
+  pub left : (b : ℕ) → among t.left b ≡ (among s.left b || (nat_lt a 128 && b == a))
+  pub made : (f : ℕ) (v : Bool) → has t.made f v ≡ (has s.made f v || has row.makes f v)
+  pub agreed : (f : ℕ) (v : Bool) → has t.agreed f v ≡ (has s.agreed f v && has row.makes f v)
+  pub wanted : (f : ℕ) (v : Bool) → has t.wanted f v ≡ (has s.wanted f v && has row.needs f v)
+
 -- The actions of the stage that are not in `rest` have been looked at.
-pub record Looked (m : Meaning) (g : StageMasks) (required : Literals) (rest left : ActionSet) (made agreed wanted : Literals) : Type 0 where
+pub record Looked (m : Meaning) (g : StageMasks) (required : Literals) (rest : ActionSet) (s : Survey) : Type 0 where
   pub rests : (a : ℕ) → among rest a ≡ true → among g.left a ≡ true
-  pub from : (a : ℕ) → among left a ≡ true → among g.left a ≡ true
-  pub fit : (a : ℕ) → among left a ≡ true → Fit m g required a
-  pub stays : (a : ℕ) → among g.left a ≡ true → among rest a ≡ false → Fit m g required a → among left a ≡ true
-  pub making : Joined m.makes left made
-  pub agreeing : Met m.facts m.makes left agreed
-  pub wanting : Met m.facts m.needs left wanted
+  pub from : (a : ℕ) → among s.left a ≡ true → among g.left a ≡ true
+  pub fit : (a : ℕ) → among s.left a ≡ true → Fit m g required a
+  pub stays : (a : ℕ) → among g.left a ≡ true → among rest a ≡ false → Fit m g required a → among s.left a ≡ true
+  pub making : Joined m.makes s.left s.made
+  pub agreeing : Met m.facts m.makes s.left s.agreed
+  pub wanting : Met m.facts m.needs s.left s.wanted
 
 -- All actions of the stage have been looked at.
 pub record Surveyed (m : Meaning) (g : StageMasks) (required : Literals) (s : Survey) : Type 0 where

@@ -10,4 +10,5 @@ pub mod Revising
 pub mod Parts
 pub mod Turns
 pub mod Loops
+pub mod Bounds
 pub mod Calls

@@ -1,7 +1,6 @@
 -- Parts as structures.
 use Rattle.std.specs.Prelude.{◌≡◌, ℕ, ◌<◌, ◌≤◌, ◌&&◌, nat_le, nat_lt, slice_index_or}
-use Rattle.sets.specs.Sets.{has, among}
-use Rattle.sets.specs.declared.actions.ActionSet.{ActionSet}
+use Rattle.sets.specs.Sets.{has, among, ActionSet}
 use Rattle.sets.specs.declared.literals.Literals.{Literals}
 use Rattle.filter.specs.declared.part.Part.{Part}
 use Rattle.filter.specs.Structures.{Structure}
@@ -11,7 +10,7 @@ abbrev pub no_actions : ActionSet
 no_actions = record { bits = 0 }
 
 abbrev pub no_literals : Literals
-no_literals = record { trues = 0; falses = 0 }
+no_literals = record { trues = record { bits = 0 }; falses = record { bits = 0 } }
 
 -- The actions at step i, and the values at level i.
 abbrev pub step_at : Part → ℕ → ActionSet

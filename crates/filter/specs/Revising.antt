@@ -22,11 +22,11 @@ pub record OfTask (m : Meaning) (g : Stage) : Type 0 where
 
 -- Each word of h is no larger a number than that of g.
 pub record Fewer (h g : StageMasks) : Type 0 where
-  pub before_trues : h.before.trues ≤ g.before.trues
-  pub before_falses : h.before.falses ≤ g.before.falses
+  pub before_trues : h.before.trues.bits ≤ g.before.trues.bits
+  pub before_falses : h.before.falses.bits ≤ g.before.falses.bits
   pub actions : h.left.bits ≤ g.left.bits
-  pub after_trues : h.after.trues ≤ g.after.trues
-  pub after_falses : h.after.falses ≤ g.after.falses
+  pub after_trues : h.after.trues.bits ≤ g.after.trues.bits
+  pub after_falses : h.after.falses.bits ≤ g.after.falses.bits
 
 -- h is left of g: nothing is added, nothing that a settled stage below g has is lost, and where the values before stayed
 -- as they were and nothing is empty, h is settled.

@@ -1,15 +1,10 @@
--- Sets of stages.
-use Rattle.std.specs.Prelude.{◌≡◌, ℕ, ◌<◌, Bool, false}
-use Rattle.sets.specs.Bits.{bit}
+-- What holds but at a set of stages.
+use Rattle.std.specs.Prelude.{◌≡◌, ℕ, ◌<◌, false}
 use Rattle.tasks.specs.Meaning.{Meaning}
-use Rattle.filter.specs.declared.stages.StageSet.{StageSet}
+use Rattle.sets.specs.Sets.{StageSet, marked}
 use Rattle.filter.specs.Structures.{Structure}
 use Rattle.filter.specs.Rules.{stage}
 use Rattle.filter.specs.Filtering.{ConsistentStage}
-
--- Stage i is in the set.
-unfoldable pub marked : StageSet → ℕ → Bool
-marked set i = bit set.bits i
 
 -- Each stage of the structure that is not in the set is consistent.
 abbrev pub ConsistentButAt : StageSet → Meaning → Structure → Type 0

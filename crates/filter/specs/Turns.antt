@@ -1,17 +1,15 @@
 -- One turn of the filter's loop, and what the loop keeps.
 use Rattle.std.specs.Prelude.{◌≡◌, ℕ, suc, ◌+◌, ◌*◌, ◌^◌, ◌<◌, ◌≤◌, Bool, true, false, ◌⊎◌, Some, None, sum_by, Option, ◌≢◌, slice_set}
-use Rattle.sets.specs.Sets.{has, among}
-use Rattle.sets.specs.declared.actions.ActionSet.{ActionSet}
+use Rattle.sets.specs.Sets.{has, among, ActionSet, StageSet, marked}
 use Rattle.sets.specs.declared.literals.Literals.{Literals}
 use Rattle.tasks.specs.Meaning.{Meaning}
 use Rattle.filter.specs.declared.part.Part.{Part}
 use Rattle.filter.specs.declared.stage.StageMasks.{StageMasks}
-use Rattle.filter.specs.declared.stages.StageSet.{StageSet}
 use Rattle.filter.specs.Structures.{Structure, Below}
 use Rattle.filter.specs.Rules.{stage}
 use Rattle.filter.specs.Filtering.{Consistent, ConsistentStage}
 use Rattle.filter.specs.Parts.{step_at, level_at, SamePast}
-use Rattle.filter.specs.Stages.{marked, ConsistentButAt}
+use Rattle.filter.specs.Stages.{ConsistentButAt}
 
 -- Stage i of a part, as it is stored.
 abbrev pub stage_at : Part → ℕ → StageMasks
@@ -29,7 +27,7 @@ pub record Placed (p : Part) (i : ℕ) (g : StageMasks) (q : Part) : Type 0 wher
 
 -- All words of a part added up as numbers: less where something went.
 abbrev pub size : Literals → ℕ
-size v = v.trues + v.falses
+size v = v.trues.bits + v.falses.bits
 
 abbrev pub bulk : ActionSet → ℕ
 bulk v = v.bits

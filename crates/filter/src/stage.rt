@@ -1,12 +1,11 @@
 //! One stage of a part, and what the rules leave of it.
 ghost use Rattle.std.specs.Prelude.{Decides};
 ghost use Rattle.tasks.specs.Bundle.{meaning};
-ghost use Rattle.filter.specs.Kernel.{Fits, Surveyed, WholeStage};
+ghost use Rattle.filter.specs.Kernel.{Fits, Joins, Surveyed, WholeStage};
 ghost use Rattle.filter.specs.Revising.{Revised};
 
 use crate::limits::all_literals;
-use sets::actions::ActionSet;
-use sets::literals::Literals;
+use sets::{ActionSet, Literals};
 use tasks::row::Row;
 use tasks::task::Task;
 
@@ -32,72 +31,72 @@ impl StageMasks {
     pub fn is_whole(self, all: Literals) -> bool
         ensures value { Decides result (WholeStage all self) }
     {
-        if self.left.is_empty() {
-            return false;
+        !self.left.is_empty() && self.before.covers(all) && self.after.covers(all)
+    }
+
+    /// Removes from the stage what the rules remove there, once over.
+    pub fn revise<T: Task>(self, task: &T) -> StageMasks
+        ensures value { Revised (meaning T.Task task.now) self result }
+    {
+        let required = all_literals(task)
+            .without(self.before)
+            .without(self.after.opposites());
+        let seen = self.look_over(task, required);
+        let after = self
+            .after
+            .common(self.before.union(seen.made))
+            .without(seen.agreed.opposites());
+        let before = self
+            .before
+            .common(after.union(seen.made.opposites()))
+            .without(seen.wanted.opposites());
+        StageMasks {
+            before,
+            left: seen.left,
+            after,
         }
-        if !self.before.covers(all) {
-            return false;
+    }
+
+    // Looks over the actions of the stage, where each literal of `required` has to be made.
+    fn look_over<T: Task>(self, task: &T, required: Literals) -> Survey
+        ensures value { Surveyed (meaning T.Task task.now) self required result }
+    {
+        let all = all_literals(task);
+        let mut seen = Survey {
+            left: ActionSet::none(),
+            made: Literals::none(),
+            agreed: all,
+            wanted: all,
+        };
+        for a in self.left {
+            let row = task.row(a);
+            if self.fits(row, required) {
+                seen.add(a, row);
+            }
         }
-        self.after.covers(all)
+        seen
+    }
+
+    // Whether an action may stay: what it needs is possible before, what it makes is possible after, and it makes what is
+    // required.
+    fn fits(self, row: Row, required: Literals) -> bool
+        ensures value { Decides result (Fits row self required) }
+    {
+        let unmet = row.needs.without(self.before);
+        let spoilt = row.makes.without(self.after);
+        let missed = required.without(row.makes);
+        unmet.union(spoilt).union(missed).is_empty()
     }
 }
 
-/// Removes from a stage what the rules remove there, once over.
-pub fn revise<T: Task>(task: &T, stage: StageMasks) -> StageMasks
-    ensures value { Revised (meaning T.Task task.now) stage result }
-{
-    let required = all_literals(task)
-        .without(stage.before)
-        .without(stage.after.opposites());
-    let seen = look_over(task, stage, required);
-    let after = stage
-        .after
-        .common(stage.before.union(seen.made))
-        .without(seen.agreed.opposites());
-    let before = stage
-        .before
-        .common(after.union(seen.made.opposites()))
-        .without(seen.wanted.opposites());
-    StageMasks {
-        before,
-        left: seen.left,
-        after,
+impl Survey {
+    // Adds an action, which has this row.
+    fn add(&mut self, a: usize, row: Row)
+        ensures value { Joins self.old a row self.new }
+    {
+        self.left = self.left.with(a);
+        self.made = self.made.union(row.makes);
+        self.agreed = self.agreed.common(row.makes);
+        self.wanted = self.wanted.common(row.needs);
     }
-}
-
-// Looks over the actions of a stage, where each literal of `required` has to be made.
-fn look_over<T: Task>(task: &T, stage: StageMasks, required: Literals) -> Survey
-    ensures value { Surveyed (meaning T.Task task.now) stage required result }
-{
-    let mut rest = stage.left;
-    let mut left = ActionSet::none();
-    let mut made = Literals::none();
-    let mut agreed = all_literals(task);
-    let mut wanted = agreed;
-    while let Some(a) = rest.pop_lowest() {
-        let row = task.row(a as usize);
-        if fits(row, stage, required) {
-            left = left.with(a);
-            made = made.union(row.makes);
-            agreed = agreed.common(row.makes);
-            wanted = wanted.common(row.needs);
-        }
-    }
-    Survey {
-        left,
-        made,
-        agreed,
-        wanted,
-    }
-}
-
-// Whether an action may stay: what it needs is possible before, what it makes is possible after, and it makes what is
-// required.
-fn fits(row: Row, stage: StageMasks, required: Literals) -> bool
-    ensures value { Decides result (Fits row stage required) }
-{
-    let unmet = row.needs.without(stage.before);
-    let spoilt = row.makes.without(stage.after);
-    let missed = required.without(row.makes);
-    unmet.union(spoilt).union(missed).is_empty()
 }

@@ -3,25 +3,42 @@
 
 use filter::{Outcome, Part, filter_snapshot};
 use sets::{ActionSet, Literals};
+use std::array;
 use tasks::masks::Masks;
+use tasks::refusal::Refusal;
 
 /// How many times each part is filtered.
 const TURNS: u32 = 2000;
 
 // A chain of 64 facts: action f makes fact f true where fact f - 1 is, action 64 + f makes fact f false.
-fn chain() -> Option<Masks> {
-    let mut needs = [0i8; 8192];
-    let mut makes = [0i8; 8192];
-    for f in 0..64usize {
-        needs[f * 64 + f] = -1;
-        if f > 0 {
-            needs[f * 64 + f - 1] = 1;
-        }
-        makes[f * 64 + f] = 1;
-        needs[(64 + f) * 64 + f] = 1;
-        makes[(64 + f) * 64 + f] = -1;
+fn chain() -> Result<Masks, Refusal> {
+    let needs: [i8; 8192] = array::from_fn(needed);
+    let makes: [i8; 8192] = array::from_fn(made);
+    Masks::from_tables(64, 128, &needs, &makes, &[-1; 64], &[0; 64])
+}
+
+// A cell of the table of what the chain's actions need.
+fn needed(cell: usize) -> i8 {
+    let (a, f) = (cell / 64, cell % 64);
+    if a == f {
+        -1
+    } else if a == f + 64 || a == f + 1 && a < 64 {
+        1
+    } else {
+        0
     }
-    Masks::from_tables(64, 128, &needs, &makes, &[-1; 64], &[0; 64]).ok()
+}
+
+// A cell of the table of what they make.
+fn made(cell: usize) -> i8 {
+    let (a, f) = (cell / 64, cell % 64);
+    if a == f {
+        1
+    } else if a == f + 64 {
+        -1
+    } else {
+        0
+    }
 }
 
 // All actions and all values over 30 steps, from all facts false to fact `goal` true.
@@ -37,19 +54,17 @@ fn part_to(goal: usize) -> Part {
 }
 
 // How often the part was kept.
-fn times_kept(task: &Masks, part: Part) -> u32 {
-    let mut count = 0;
-    for _turn in 0..TURNS {
-        let mut copy = part;
-        if let Ok(Outcome::Kept) = filter_snapshot(task, &mut copy) {
-            count += 1;
-        }
-    }
-    count
+fn times_kept(task: &Masks, part: Part) -> usize {
+    (0..TURNS)
+        .filter(|_| {
+            let mut copy = part;
+            filter_snapshot(task, &mut copy) == Ok(Outcome::Kept)
+        })
+        .count()
 }
 
 fn main(rt: HostRuntime) -> Result<(), std::io::Error> {
-    if let Some(task) = chain() {
+    if let Ok(task) = chain() {
         println!(rt;
             "reachable: {} of {TURNS} kept",
             times_kept(&task, part_to(28))

@@ -1,5 +1,5 @@
 //! Each rule alone removes something; strays; the smallest and the largest round; refusals.
-use filter::{Outcome, Part, StageSet, filter, filter_from};
+use filter::{BoundedPart, Outcome, Part, Refusal, StageSet, filter, filter_from};
 use sets::{ActionSet, Literals};
 use std::process::Abort;
 use std::test::Fail;
@@ -7,34 +7,26 @@ use tasks::masks::Masks;
 
 // The values of one fact.
 fn only_true() -> Literals {
-    Literals {
-        trues: 1,
-        falses: 0,
-    }
+    Literals::none().with(0, 1)
 }
 
 fn only_false() -> Literals {
-    Literals {
-        trues: 0,
-        falses: 1,
-    }
+    Literals::none().with(0, -1)
 }
 
 fn either() -> Literals {
-    Literals {
-        trues: 1,
-        falses: 1,
-    }
+    Literals::all(1)
 }
 
-// A part of one step with two actions, between two levels.
-fn step_between(before: Literals, after: Literals) -> Part {
+// A part of one step, between two levels.
+fn one_step(before: Literals, left: ActionSet, after: Literals) -> Part {
     let mut part = Part {
         round: 1,
         steps: [ActionSet::below(2); 30],
         levels: [Literals::none(); 31],
     };
     part.levels[0] = before;
+    part.steps[0] = left;
     part.levels[1] = after;
     part
 }
@@ -44,17 +36,12 @@ fn leaves(
     rt: &impl Abort,
     needs: &[i8],
     makes: &[i8],
-    part: Part,
-    before: Literals,
-    left: u128,
-    after: Literals,
+    mut part: Part,
+    left: Part,
 ) -> Result<(), Fail> {
     let task = Masks::from_tables(1, 2, needs, makes, &[-1], &[0])?;
-    let mut part = part;
     assert_eq!(rt; filter(&task, &mut part)?, Outcome::Kept);
-    assert!(rt; part.levels[0].trues == before.trues && part.levels[0].falses == before.falses);
-    assert!(rt; part.steps[0].bits == left);
-    assert!(rt; part.levels[1].trues == after.trues && part.levels[1].falses == after.falses);
+    assert_eq!(rt; part, left);
     Ok(())
 }
 
@@ -64,10 +51,8 @@ fn neither_possible_before_nor_made(rt: HostRuntime) -> Result<(), Fail> {
         &rt,
         &[0, 0],
         &[0, 0],
-        step_between(only_true(), either()),
-        only_true(),
-        3,
-        only_true(),
+        one_step(only_true(), ActionSet::below(2), either()),
+        one_step(only_true(), ActionSet::below(2), only_true()),
     )
 }
 
@@ -77,10 +62,8 @@ fn opposite_always_made(rt: HostRuntime) -> Result<(), Fail> {
         &rt,
         &[0, 0],
         &[1, 1],
-        step_between(either(), either()),
-        either(),
-        3,
-        only_true(),
+        one_step(either(), ActionSet::below(2), either()),
+        one_step(either(), ActionSet::below(2), only_true()),
     )
 }
 
@@ -90,10 +73,8 @@ fn neither_possible_after_nor_undone(rt: HostRuntime) -> Result<(), Fail> {
         &rt,
         &[0, 0],
         &[0, 0],
-        step_between(either(), only_true()),
-        only_true(),
-        3,
-        only_true(),
+        one_step(either(), ActionSet::below(2), only_true()),
+        one_step(only_true(), ActionSet::below(2), only_true()),
     )
 }
 
@@ -103,10 +84,8 @@ fn opposite_always_needed(rt: HostRuntime) -> Result<(), Fail> {
         &rt,
         &[1, 1],
         &[-1, -1],
-        step_between(either(), only_false()),
-        only_true(),
-        3,
-        only_false(),
+        one_step(either(), ActionSet::below(2), only_false()),
+        one_step(only_true(), ActionSet::below(2), only_false()),
     )
 }
 
@@ -116,10 +95,8 @@ fn needs_the_impossible(rt: HostRuntime) -> Result<(), Fail> {
         &rt,
         &[1, 0],
         &[0, 0],
-        step_between(only_false(), only_false()),
-        only_false(),
-        2,
-        only_false(),
+        one_step(only_false(), ActionSet::below(2), only_false()),
+        one_step(only_false(), ActionSet::none().with(1), only_false()),
     )
 }
 
@@ -129,10 +106,8 @@ fn makes_the_impossible(rt: HostRuntime) -> Result<(), Fail> {
         &rt,
         &[0, 0],
         &[1, 0],
-        step_between(only_false(), only_false()),
-        only_false(),
-        2,
-        only_false(),
+        one_step(only_false(), ActionSet::below(2), only_false()),
+        one_step(only_false(), ActionSet::none().with(1), only_false()),
     )
 }
 
@@ -142,27 +117,20 @@ fn misses_a_required_change(rt: HostRuntime) -> Result<(), Fail> {
         &rt,
         &[0, 0],
         &[1, 0],
-        step_between(only_false(), only_true()),
-        only_false(),
-        1,
-        only_true(),
+        one_step(only_false(), ActionSet::below(2), only_true()),
+        one_step(only_false(), ActionSet::below(1), only_true()),
     )
 }
 
 #[test]
 fn strays_are_dropped(rt: HostRuntime) -> Result<(), Fail> {
-    let mut part = step_between(
-        Literals {
-            trues: !0,
-            falses: !0,
-        },
-        Literals {
-            trues: !0,
-            falses: !0,
-        },
-    );
-    part.steps[0] = ActionSet { bits: !0 };
-    leaves(&rt, &[0, 0], &[0, 0], part, either(), 3, either())
+    leaves(
+        &rt,
+        &[0, 0],
+        &[0, 0],
+        one_step(Literals::all(64), ActionSet::below(128), Literals::all(64)),
+        one_step(either(), ActionSet::below(2), either()),
+    )
 }
 
 #[test]
@@ -179,20 +147,32 @@ fn round_zero(rt: HostRuntime) -> Result<(), Fail> {
     Ok(())
 }
 
+// A part of round 30 with the same actions at each step, and after the first level the same values at each.
+fn thirty_steps(start: Literals, actions: ActionSet, values: Literals) -> Part {
+    let mut part = Part {
+        round: 30,
+        steps: [actions; 30],
+        levels: [values; 31],
+    };
+    part.levels[0] = start;
+    part
+}
+
 #[test]
 fn round_thirty(rt: HostRuntime) -> Result<(), Fail> {
     let task = Masks::from_tables(1, 1, &[0], &[1], &[-1], &[0])?;
-    let mut part = Part {
-        round: 30,
-        steps: [ActionSet::below(1); 30],
-        levels: [either(); 31],
-    };
-    part.levels[0] = only_false();
+    let mut part = thirty_steps(only_false(), ActionSet::below(1), either());
     assert_eq!(rt; filter(&task, &mut part)?, Outcome::Kept);
-    assert!(rt; part.levels[1].falses == 0 && part.levels[30].falses == 0);
+    assert_eq!(rt;
+        part,
+        thirty_steps(only_false(), ActionSet::below(1), only_true())
+    );
     part.levels[30] = only_false();
     assert_eq!(rt; filter(&task, &mut part)?, Outcome::Wiped);
-    assert!(rt; part.steps[29].bits == 0 && part.levels[30].falses == 0);
+    assert_eq!(rt;
+        part,
+        thirty_steps(Literals::none(), ActionSet::none(), Literals::none())
+    );
     Ok(())
 }
 
@@ -204,26 +184,37 @@ fn round_thirty_one(rt: HostRuntime) -> Result<(), Fail> {
         steps: [ActionSet::below(2); 30],
         levels: [either(); 31],
     };
-    assert!(rt;
-        match filter(&task, &mut part) {
-            Ok(_) => false,
-            Err(why) => why.number() == 8,
-        }
-    );
-    assert!(rt; part.steps[0].bits == 3);
+    let given = part;
+    assert_eq!(rt; filter(&task, &mut part).map_err(Refusal::number), Err(8));
+    assert_eq!(rt; part, given);
+    assert_eq!(rt; BoundedPart::try_from(part), Err(Refusal::Round));
     Ok(())
 }
 
 #[test]
 fn one_stage_is_due(rt: HostRuntime) -> Result<(), Fail> {
     let task = Masks::from_tables(1, 2, &[0, 0], &[1, 0], &[-1], &[0])?;
-    let mut part = step_between(only_false(), either());
+    let mut part = one_step(only_false(), ActionSet::below(2), either());
     assert_eq!(rt; filter(&task, &mut part)?, Outcome::Kept);
-    part.steps[0] = ActionSet { bits: 1 };
+    part.steps[0] = ActionSet::below(1);
     assert_eq!(rt;
         filter_from(&task, &mut part, StageSet::none().with(0))?,
         Outcome::Kept
     );
-    assert!(rt; part.levels[1].falses == 0);
+    assert_eq!(rt;
+        part,
+        one_step(only_false(), ActionSet::below(1), only_true())
+    );
+    Ok(())
+}
+
+#[test]
+fn a_bounded_part_is_not_refused(rt: HostRuntime) -> Result<(), Fail> {
+    let task = Masks::from_tables(1, 2, &[0, 0], &[1, 0], &[-1], &[0])?;
+    let part = one_step(only_false(), ActionSet::below(2), only_true());
+    let left = one_step(only_false(), ActionSet::below(1), only_true());
+    let mut bounded = BoundedPart::try_from(part)?;
+    assert_eq!(rt; bounded.filter(&task), Outcome::Kept);
+    assert_eq!(rt; bounded.part, left);
     Ok(())
 }

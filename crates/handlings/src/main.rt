@@ -12,36 +12,29 @@ use std::{env, io};
 const MOST: u64 = 32_769;
 
 fn main(rt: HostRuntime) -> io::Result<ExitCode> {
-    let mut sheet = Vec::new(rt.alloc());
-    if let Err(error) = read_sheet(rt, &mut sheet) {
-        eprintln!(rt; "handlings: {error}")?;
-        return Ok(ExitCode::FAILURE);
-    }
-    let mut text = [0; 800];
-    match plan_text(rt.alloc(), sheet.as_slice(), &mut text) {
-        Ok(Told::Report(n)) => rt.stdout().write_all(&text[0..n])?,
-        Ok(Told::Refusal(n)) => {
-            rt.stdout().write_all(&text[0..n])?;
+    let sheet = match read_sheet(rt) {
+        Ok(sheet) => sheet,
+        Err(error) => {
+            eprintln!(rt; "handlings: {error}")?;
             return Ok(ExitCode::FAILURE);
         }
-        Err(_) => return Ok(ExitCode::FAILURE),
-    }
-    Ok(ExitCode::SUCCESS)
+    };
+    let mut text = [0; 800];
+    let (length, status) = match plan_text(rt.alloc(), &sheet, &mut text) {
+        Ok(Told::Report(n)) => (n, ExitCode::SUCCESS),
+        Ok(Told::Refusal(n)) => (n, ExitCode::FAILURE),
+        Err(_) => (0, ExitCode::FAILURE),
+    };
+    rt.stdout().write_all(&text[..length])?;
+    Ok(status)
 }
 
 /// Reads the sheet: the file that is named, or standard input where none is.
-fn read_sheet(rt: HostRuntime, sheet: &mut Vec<u8>) -> io::Result<()> {
-    let mut args = env::args(&rt)?;
-    let _ = args.next();
-    match args.next() {
-        None => {
-            let _ = rt.stdin().take(MOST).read_to_end(sheet)?;
-        }
-        Some(path) => {
-            let _ = File::open(&rt, path.as_str())?
-                .take(MOST)
-                .read_to_end(sheet)?;
-        }
-    }
-    Ok(())
+fn read_sheet(rt: HostRuntime) -> io::Result<Vec<u8>> {
+    let mut sheet = Vec::new(rt.alloc());
+    let _ = match env::args(&rt)?.nth(1) {
+        Some(path) => File::open(&rt, &path)?.take(MOST).read_to_end(&mut sheet)?,
+        None => rt.stdin().take(MOST).read_to_end(&mut sheet)?,
+    };
+    Ok(sheet)
 }

@@ -1,213 +1,186 @@
 -- Chains of rows: a chain has each row of its slot, so a state that is not met on the way from the head stands nowhere.
 -- A new row goes in front of its chain; raising a left changes no state and so no chain.
-use Rattle.std.proofs.Common.{◌≡◌, ℕ, ◌+◌, ◌-◌, ◌<◌, ◌≤◌, false, leb, ◌≢◌, List, length, get_or, take, set, sym, ap, ◌∙◌, subst, inl, inr, arith}
-use mathlib.Core.Path.{fun_ext}
-use Rattle.std.proofs.lemmas.List.{get_or-set_same, get_or-set_other, get_or-take, length-take-le, set_past}
-use Rattle.std.proofs.lemmas.Bool.{cases_eq, cases_lt, cases_order, le-leb, lt-leb}
-use Rattle.memories.specs.Pairs.{recalls}
+use Rattle.std.proofs.Common.{◌≡◌, ℕ, zero, suc, ◌+◌, ◌<◌, ◌≤◌, ◌≢◌, List, [], ◌∷◌, ◌++◌, length, get_or, set, map, Some, None, Option, replicate, refl, sym, ap, ◌∙◌, subst, inl, inr, arith, length-set}
+use Rattle.std.proofs.lemmas.List.{get_or-set_same, get_or-set_other, get_or_append_left, get_or_push, get_or-replicate, length-replicate, length-append}
+use Rattle.std.proofs.lemmas.List.FromFn.{length-map-range_with_len, get_or-map-range_with_len}
+use Rattle.std.specs.List.{range_with_len}
+use Rattle.std.proofs.lemmas.Bool.{cases_eq, cases_lt, cases_order, eq-eqb, ne_eqb}
 use Rattle.memories.specs.declared.row.Row.{Row}
-use Rattle.memories.specs.Rows.{row, among, place_of}
 use Rattle.memories.specs.Slots.{slot_of}
-use Rattle.memories.specs.Chains.{state_at, HeadsCover, HeadsWithin, HeadsOwn, LinksCover, LinksWithin, LinksOwn, Apart}
-use Rattle.memories.specs.Keeping.{no_row, place_is, stands, absent, recalls_row, recalls_no_row}
+use Rattle.memories.specs.Rows.{IsListed}
+use Rattle.memories.specs.Chains.{IsChained, state_at, newest_of}
+use Rattle.memories.specs.Remembered.{IsRemembered}
+use Rattle.memories.proofs.Finding.{IsFirst, IsAbsent, no_row, state-set, differ-set, differ-push}
 
-pub record Chained (state : ℕ → ℕ) (count : ℕ) (heads links : List ℕ) : Type 0 where
-  pub newest : HeadsCover state count heads
-  pub filled : HeadsWithin count heads
-  pub headed : HeadsOwn state heads
-  pub older : LinksCover state count links
-  pub back : LinksWithin count links
-  pub linked : LinksOwn state count links
-  pub apart : Apart state count
+-- row i is the newest of the slot among the first n
+record IsNewest (rows : List Row) (slot n i : ℕ) : Type 0 where
+  within : i < n
+  owns : slot_of (state_at rows i) ≡ slot
+  last : (k : ℕ) → i < k → k < n → slot_of (state_at rows k) ≢ slot
+
+newest-Some : (rows : List Row) (slot n i : ℕ) → newest_of rows slot n ≡ Some i → IsNewest rows slot n i
+unfolding newest_of
+newest-Some rows slot zero i e = absurd cc
+newest-Some rows slot (suc n) i e = elim (cases_eq (slot_of (state_at rows n)) slot) [
+  | inl here ↦
+      let top = rw (eq-eqb (slot_of (state_at rows n)) slot here) at e in
+      let q : n ≡ i = cc in
+      record { within = omega arith; owns = subst (λ (k : ℕ). slot_of (state_at rows k) ≡ slot) q here; last = λ k above below. absurd (omega arith) }
+  | inr other ↦
+      let w = newest-Some rows slot n i (rw (ne_eqb (slot_of (state_at rows n)) slot other) at e) in
+      record {
+        within = omega (arith, w.within);
+        owns = w.owns;
+        last = λ k above below. elim (cases_eq k n) [ inl q ↦ subst (λ (j : ℕ). slot_of (state_at rows j) ≢ slot) (sym q) other | inr ne ↦ w.last k above (omega arith) ];
+      }
+]
+
+newest-None : (rows : List Row) (slot n : ℕ) → newest_of rows slot n ≡ None → (k : ℕ) → k < n → slot_of (state_at rows k) ≢ slot
+unfolding newest_of
+newest-None rows slot zero e k lt = absurd (omega arith)
+newest-None rows slot (suc n) e k lt = elim (cases_eq (slot_of (state_at rows n)) slot) [
+  | inl here ↦ let top = rw (eq-eqb (slot_of (state_at rows n)) slot here) at e in absurd cc
+  | inr other ↦ elim (cases_eq k n) [
+    | inl q ↦ subst (λ (j : ℕ). slot_of (state_at rows j) ≢ slot) (sym q) other
+    | inr ne ↦ newest-None rows slot n (rw (ne_eqb (slot_of (state_at rows n)) slot other) at e) k (omega arith)
+  ]
+]
+
+-- only the states of the first n rows matter
+newest-same : (old new : List Row) (slot n : ℕ) → ((k : ℕ) → k < n → state_at new k ≡ state_at old k) → newest_of new slot n ≡ newest_of old slot n
+unfolding newest_of
+newest-same old new slot zero same = refl
+newest-same old new slot (suc n) same = rw (same n (omega arith), newest-same old new slot n (λ k lt. same k (omega arith)))
 
 -- no row
-pub chained_none : (state : ℕ → ℕ) (heads links : List ℕ) → ((h : ℕ) → get_or heads h 0 ≡ 0) → Chained state 0 heads links
-chained_none state heads links ends = record {
-  newest = λ i lt. absurd (omega arith);
-  filled = λ h. omega (arith, ends h);
-  headed = λ h lt. absurd (omega (arith, ends h));
-  older = λ i j p. absurd (omega (arith, p.1));
-  back = λ j lt. absurd (omega arith);
-  linked = λ j lt more. absurd (omega arith);
-  apart = λ i j p. omega (arith, p.1);
+pub chained_none : (links : List (Option ℕ)) → length links ≡ 256 → IsChained [] (replicate 256 None) links
+unfolding newest_of
+chained_none links tall = record {
+  wide = length-replicate {A = Option ℕ} 256 None;
+  tall = tall;
+  newest = λ slot lt. get_or-replicate 256 slot None None lt;
+  older = λ i lt. absurd (omega arith);
+  apart = λ i j d lt within. absurd (omega arith);
 }
 
--- a left is raised
-same_states : (rows : List Row) (at n : ℕ) → state_at (set rows at (row (get_or rows at no_row).state n)) ≡ state_at rows
-unfolding state_at
-same_states rows at n = fun_ext (λ i. elim (cases_eq i at) [
-  | inl here ↦ elim (cases_lt at (length rows)) [
-    | inl lt ↦ subst (λ (k : ℕ). (get_or (set rows at (row (get_or rows at no_row).state n)) k no_row).state ≡ (get_or rows k no_row).state) (sym here) (ap (λ (r : Row). r.state) (get_or-set_same rows at (row (get_or rows at no_row).state n) no_row lt))
-    | inr past ↦ ap (λ (rs : List Row). (get_or rs i no_row).state) (set_past rows at (row (get_or rows at no_row).state n) past)
-  ]
-  | inr other ↦ ap (λ (r : Row). r.state) (get_or-set_other rows at i (row (get_or rows at no_row).state n) no_row other)
-])
+-- the number of rows up to a row, and 0 where there is none
+abbrev pub up_to : Option ℕ → ℕ
+up_to None = 0
+up_to (Some i) = i + 1
 
-pub chained_raised : (rows : List Row) (count : ℕ) (heads links : List ℕ) (at n : ℕ) → Chained (state_at rows) count heads links → Chained (state_at (set rows at (row (get_or rows at no_row).state n))) count heads links
-chained_raised rows count heads links at n c = subst (λ (state : ℕ → ℕ). Chained state count heads links) (sym (same_states rows at n)) c
+-- looking for a state: the rows that were passed do not have it, and the next to look at is the newest of its slot among the others
+pub record Walks (rows : List Row) (s : ℕ) (next : Option ℕ) : Type 0 where
+  pub left : ℕ
+  pub within : left ≤ length rows
+  pub newest : next ≡ newest_of rows (slot_of s) left
+  pub passed : (k : ℕ) → left ≤ k → k < length rows → state_at rows k ≢ s
+
+module _ (rows : List Row) (heads links : List (Option ℕ)) (c : IsChained rows heads links) (s : ℕ) where
+  pub walks_from_head : slot_of s < 256 → Walks rows s (get_or heads (slot_of s) None)
+  walks_from_head lt = record { left = length rows; within = omega arith; newest = c.newest (slot_of s) lt; passed = λ k ge lt. absurd (omega arith) }
+
+  pub walks_within : (i : ℕ) → Walks rows s (Some i) → i < length rows
+  walks_within i w = let at = newest-Some rows (slot_of s) w.left i (sym w.newest) in omega (arith, at.within, w.within)
+
+  pub walks_on : (i : ℕ) → Walks rows s (Some i) → state_at rows i ≢ s → Walks rows s (get_or links i None)
+  walks_on i w other =
+      let at = newest-Some rows (slot_of s) w.left i (sym w.newest) in
+      let inside = walks_within i w in
+      record {
+        left = i;
+        within = omega arith;
+        newest = c.older i inside ∙ ap (λ (slot : ℕ). newest_of rows slot i) at.owns;
+        passed = λ k ge lt. elim (cases_order k i) [
+          | inl q ↦ subst (λ (j : ℕ). state_at rows j ≢ s) (sym q) other
+          | inr (inl before) ↦ absurd (omega arith)
+          | inr (inr after) ↦ elim (cases_lt k w.left) [ inl below ↦ λ e. at.last k after below (ap slot_of e) | inr past ↦ w.passed k past lt ]
+        ];
+      }
+
+  pub walks_to_first : (i : ℕ) → Walks rows s (Some i) → state_at rows i ≡ s → IsFirst rows s i
+  walks_to_first i w here = record {
+    within = walks_within i w;
+    here = here;
+    before = λ k lt e. c.apart k i no_row lt (walks_within i w) (e ∙ sym here);
+  }
+
+  pub walks_to_end : Walks rows s None → IsAbsent rows s
+  walks_to_end w = record {
+    nowhere = λ k lt. elim (cases_lt k w.left) [ inl below ↦ λ e. newest-None rows (slot_of s) w.left (sym w.newest) k below (ap slot_of e) | inr past ↦ w.passed k past lt ];
+  }
+
+  -- each next row is older
+  pub walks_down : (i : ℕ) → Walks rows s (Some i) → up_to (get_or links i None) < i + 1
+  walks_down i w = go (get_or links i None) (c.older i (walks_within i w))
+    where
+      go : (next : Option ℕ) → next ≡ newest_of rows (slot_of (state_at rows i)) i → up_to next < i + 1
+      go None e = omega arith
+      go (Some j) e = let older = newest-Some rows (slot_of (state_at rows i)) i j (sym e) in omega (arith, older.within)
+
+-- a row keeps its state
+pub chained_raised : (rows : List Row) (heads links : List (Option ℕ)) (i : ℕ) (r : Row) → i < length rows → r.state ≡ state_at rows i → IsChained rows heads links → IsChained (set rows i r) heads links
+chained_raised rows heads links i r lt e c =
+    let many : length (set rows i r) ≡ length rows = length-set rows i r in
+    let same = state-set rows i r lt e no_row in
+    record {
+      wide = c.wide;
+      tall = c.tall;
+      newest = λ slot below. c.newest slot below ∙ sym (rw many (newest-same rows (set rows i r) slot (length rows) (λ k _. same k)));
+      older = λ j below. rw (same j) (c.older j (omega arith) ∙ sym (newest-same rows (set rows i r) (slot_of (state_at rows j)) j (λ k _. same k)));
+      apart = differ-set rows i r lt e c.apart;
+    }
 
 -- a row is added
-module _ (state new : ℕ → ℕ) (count : ℕ) (heads links : List ℕ) (c : Chained state count heads links) (s : ℕ) (same : (i : ℕ) → i < count → new i ≡ state i) (here : new count ≡ s)
-    (fresh : (i : ℕ) → i < count → state i ≡ s → ⊥) (wide : slot_of s < length heads) (tall : count < length links) where
-  heads' : List ℕ
-  heads' = set heads (slot_of s) (count + 1)
+pub chained_added : (rows : List Row) (heads links : List (Option ℕ)) (r : Row) → slot_of r.state < 256 → length rows < 256 → IsAbsent rows r.state → IsChained rows heads links
+    → IsChained (rows ++ r ∷ []) (set heads (slot_of r.state) (Some (length rows))) (set links (length rows) (get_or heads (slot_of r.state) None))
+unfolding newest_of
+chained_added rows heads links r below room absent c =
+    let many : length (rows ++ r ∷ []) ≡ suc (length rows) = omega (arith, length-append rows (r ∷ [])) in
+    record {
+      wide = simp length-set c.wide;
+      tall = simp length-set c.tall;
+      newest = λ slot lt. rw (many, last) (elim (cases_eq (slot_of r.state) slot) [
+        | inl q ↦ rw (eq-eqb (slot_of r.state) slot q, ← q) (get_or-set_same heads (slot_of r.state) (Some (length rows)) None (omega (arith, c.wide)))
+        | inr other ↦ rw (ne_eqb (slot_of r.state) slot other)
+            (get_or-set_other heads (slot_of r.state) slot (Some (length rows)) None (λ e. other (sym e)) ∙ c.newest slot lt ∙ sym (old slot (length rows) (omega arith)))
+      ]);
+      older = λ i lt. elim (cases_lt i (length rows)) [
+        | inl before ↦ rw (at i before)
+            (get_or-set_other links (length rows) i (get_or heads (slot_of r.state) None) None (omega arith) ∙ c.older i before ∙ sym (old (slot_of (state_at rows i)) i (omega arith)))
+        | inr past ↦
+            let q : length rows ≡ i = omega arith in
+            subst (λ (j : ℕ). get_or (set links (length rows) (get_or heads (slot_of r.state) None)) j None ≡ newest_of (rows ++ r ∷ []) (slot_of (state_at (rows ++ r ∷ []) j)) j) q
+            (rw last (get_or-set_same links (length rows) (get_or heads (slot_of r.state) None) None (omega (arith, c.tall)) ∙ c.newest (slot_of r.state) below ∙ sym (old (slot_of r.state) (length rows) (omega arith))))
+      ];
+      apart = differ-push rows r absent c.apart;
+    }
+  where
+    last : state_at (rows ++ r ∷ []) (length rows) ≡ r.state
+    last = ap (λ (x : Row). x.state) (get_or_push rows r no_row (length rows) refl)
 
-  links' : List ℕ
-  links' = set links count (get_or heads (slot_of s) 0)
+    at : (k : ℕ) → k < length rows → state_at (rows ++ r ∷ []) k ≡ state_at rows k
+    at k lt = ap (λ (x : Row). x.state) (get_or_append_left rows (r ∷ []) no_row k lt)
 
-  head_new : get_or heads' (slot_of s) 0 ≡ count + 1
-  unfolding heads'
-  head_new = get_or-set_same heads (slot_of s) (count + 1) 0 wide
+    old : (slot n : ℕ) → n ≤ length rows → newest_of (rows ++ r ∷ []) slot n ≡ newest_of rows slot n
+    old slot n le = newest-same rows (rows ++ r ∷ []) slot n (λ k lt. at k (omega arith))
 
-  head_old : (h : ℕ) → h ≢ slot_of s → get_or heads' h 0 ≡ get_or heads h 0
-  unfolding heads'
-  head_old h other = get_or-set_other heads (slot_of s) h (count + 1) 0 other
+-- rows of a list are in a memory: each head and each link is the newest row of its slot
+pub remembered : (rows : List Row) → IsListed rows → IsRemembered rows
+remembered rows l = record {
+  memory = record { rows = record { items = rows }; heads = map newest (range_with_len 0 256); links = map older (range_with_len 0 256) };
+  chained = record {
+    wide = length-map-range_with_len newest 0 256;
+    tall = length-map-range_with_len older 0 256;
+    newest = λ slot lt. get_or-map-range_with_len newest 0 256 slot slot None lt (omega arith);
+    older = λ i lt. get_or-map-range_with_len older 0 256 i i None (omega (arith, l.few)) (omega arith);
+    apart = l.apart;
+  };
+  few = l.few;
+  shown = refl;
+}
+  where
+    newest : ℕ → Option ℕ
+    newest slot = newest_of rows slot (length rows)
 
-  link_new : get_or links' count 0 ≡ get_or heads (slot_of s) 0
-  unfolding links'
-  link_new = get_or-set_same links count (get_or heads (slot_of s) 0) 0 tall
-
-  link_old : (j : ℕ) → j < count → get_or links' j 0 ≡ get_or links j 0
-  unfolding links'
-  link_old j lt = get_or-set_other links count j (get_or heads (slot_of s) 0) 0 (omega arith)
-
-  newest' : HeadsCover new (count + 1) heads'
-  newest' i lt = elim (cases_eq (slot_of (new i)) (slot_of s)) [
-    | inl q ↦ rw (q, head_new) (omega arith)
-    | inr other ↦ elim (cases_lt i count) [
-      | inl old ↦ rw (head_old (slot_of (new i)) other, same i old) (c.newest i old)
-      | inr end ↦ absurd (other (ap slot_of (ap new (let e : i ≡ count = omega arith in e) ∙ here)))
-    ]
-  ]
-
-  filled' : HeadsWithin (count + 1) heads'
-  filled' h = elim (cases_eq h (slot_of s)) [
-    | inl q ↦ rw (q, head_new) (omega arith)
-    | inr other ↦ rw (head_old h other) (omega (arith, c.filled h))
-  ]
-
-  headed' : HeadsOwn new heads'
-  headed' h more = elim (cases_eq h (slot_of s)) [
-    | inl q ↦ ap slot_of (ap new (let e : get_or heads' h 0 - 1 ≡ count = omega (arith, ap (λ (k : ℕ). get_or heads' k 0) q, head_new) in e) ∙ here) ∙ sym q
-    | inr other ↦
-        let old = head_old h other in
-        rw old (ap slot_of (same (get_or heads h 0 - 1) (omega (arith, c.filled h))) ∙ c.headed h (omega arith))
-  ]
-
-  older' : LinksCover new (count + 1) links'
-  older' i j p = elim (cases_lt j count) [
-    | inl old ↦ rw (link_old j old) (c.older i j (p.0, old, sym (ap slot_of (same i (omega (arith, p.0)))) ∙ p.2 ∙ ap slot_of (same j old)))
-    | inr end ↦
-        let e : j ≡ count = omega (arith, p.1) in
-        let lt : i < count = omega (arith, p.0) in
-        let slot : slot_of (state i) ≡ slot_of s = sym (ap slot_of (same i lt)) ∙ p.2 ∙ ap slot_of (ap new e ∙ here) in
-        subst (λ (k : ℕ). i < k) (sym (ap (λ (k : ℕ). get_or links' k 0) e ∙ link_new)) (subst (λ (h : ℕ). i < get_or heads h 0) slot (c.newest i lt))
-  ]
-
-  back' : LinksWithin (count + 1) links'
-  back' j lt = elim (cases_lt j count) [
-    | inl old ↦ rw (link_old j old) (c.back j old)
-    | inr end ↦ let e : j ≡ count = omega arith in omega (arith, ap (λ (k : ℕ). get_or links' k 0) e, link_new, c.filled (slot_of s))
-  ]
-
-  linked' : LinksOwn new (count + 1) links'
-  linked' j lt more = elim (cases_lt j count) [
-    | inl old ↦
-        let l = link_old j old in
-        rw (l, same j old) (ap slot_of (same (get_or links j 0 - 1) (omega (arith, c.back j old))) ∙ c.linked j old (omega arith))
-    | inr end ↦
-        let e : j ≡ count = omega arith in
-        let l : get_or links' j 0 ≡ get_or heads (slot_of s) 0 = ap (λ (k : ℕ). get_or links' k 0) e ∙ link_new in
-        rw l (ap slot_of (same (get_or heads (slot_of s) 0 - 1) (omega (arith, c.filled (slot_of s)))) ∙ c.headed (slot_of s) (omega arith) ∙ sym (ap slot_of (ap new e ∙ here)))
-  ]
-
-  apart' : Apart new (count + 1)
-  apart' i j p = elim (cases_lt j count) [
-    | inl old ↦ c.apart i j (p.0, old, sym (same i (omega (arith, p.0))) ∙ p.2 ∙ same j old)
-    | inr end ↦
-        let e : j ≡ count = omega (arith, p.1) in
-        let lt : i < count = omega (arith, p.0) in
-        fresh i lt (sym (same i lt) ∙ p.2 ∙ ap new e ∙ here)
-  ]
-
-  pub chained_more : Chained new (count + 1) (set heads (slot_of s) (count + 1)) (set links count (get_or heads (slot_of s) 0))
-  unfolding heads' links'
-  chained_more = record { newest = newest'; filled = filled'; headed = headed'; older = older'; back = back'; linked = linked'; apart = apart' }
-
--- a place in the chain of a state, past each row in which the state stands
-abbrev pub OnChain : (ℕ → ℕ) → ℕ → ℕ → ℕ → Type 0
-OnChain state count s upto = (upto ≤ count) × (0 < upto → slot_of (state (upto - 1)) ≡ slot_of s) × ((i : ℕ) → i < count → state i ≡ s → i < upto)
-
--- looking for a state
-module _ (rows : List Row) (count : ℕ) (heads links : List ℕ) (fits : count ≤ length rows) (c : Chained (state_at rows) count heads links) (s : ℕ) where
-  many : length (take count rows) ≡ count
-  many = length-take-le count rows fits
-
-  state_of : (i : ℕ) → i < count → (get_or (take count rows) i no_row).state ≡ state_at rows i
-  unfolding state_at
-  state_of i lt = ap (λ (r : Row). r.state) (get_or-take count rows i no_row lt)
-
-  pub found : (at : ℕ) → at < count → state_at rows at ≡ s → at ≡ place_of (take count rows) s
-  found at lt e = place_is (take count rows) s at (omega (arith, many))
-      (λ i before q. c.apart i at (before, lt, sym (state_of i (omega arith)) ∙ q ∙ sym e))
-      (λ _. state_of at lt ∙ e)
-
-  pub nowhere : ((i : ℕ) → i < count → state_at rows i ≡ s → ⊥) → count ≡ place_of (take count rows) s
-  nowhere never = place_is (take count rows) s count (omega (arith, many)) (λ i lt q. never i lt (sym (state_of i lt) ∙ q)) (λ lt. absurd (omega (arith, many)))
-
-  -- the place is at the end, so the state stands nowhere
-  pub missed : (at : ℕ) → at ≡ place_of (take count rows) s → count ≤ at → (i : ℕ) → i < count → state_at rows i ≡ s → ⊥
-  missed at place end i lt e = absent (take count rows) s (omega (arith, many)) i (omega (arith, many)) (state_of i lt ∙ e)
-
-  pub from_head : OnChain (state_at rows) count s (get_or heads (slot_of s) 0)
-  from_head = (c.filled (slot_of s), c.headed (slot_of s), λ i lt e. subst (λ (x : ℕ). i < get_or heads (slot_of x) 0) e (c.newest i lt))
-
-  -- one step along a chain
-  pub along : (upto : ℕ) → 0 < upto → OnChain (state_at rows) count s upto → (state_at rows (upto - 1) ≡ s → ⊥) → OnChain (state_at rows) count s (get_or links (upto - 1) 0)
-  along upto some here other =
-      let lt : upto - 1 < count = omega (arith, here.0) in
-      let slot = here.1 some in (
-        omega (arith, c.back (upto - 1) lt),
-        (λ more. c.linked (upto - 1) lt more ∙ slot),
-        (λ i below e.
-            let ne : i ≢ upto - 1 = λ q. other (ap (state_at rows) (sym q) ∙ e) in
-            let before : i < upto - 1 = omega (arith, here.2 i below e) in
-            c.older i (upto - 1) (before, lt, ap slot_of e ∙ sym slot)),
-      )
-
-  -- what is recalled is read off the one row of the state
-  pub recalls_none : (n at : ℕ) → at ≡ place_of (take count rows) s → count ≤ at → false ≡ recalls (among (take count rows)) s n
-  recalls_none n at place end = sym (recalls_no_row (take count rows) s n (λ i lt e le. missed at place end i (omega (arith, many)) (sym (state_of i (omega (arith, many))) ∙ e)))
-
-  pub recalls_there : (n at : ℕ) → at ≡ place_of (take count rows) s → at < count → (get_or rows at no_row).left < 256 → leb n (get_or rows at no_row).left ≡ recalls (among (take count rows)) s n
-  recalls_there n at place lt byte = elim (cases_lt (get_or rows at no_row).left n) [
-    | inl less ↦ lt-leb n (get_or rows at no_row).left less ∙ sym (recalls_no_row (take count rows) s n (only less))
-    | inr le ↦ le-leb n (get_or rows at no_row).left le
-        ∙ sym (recalls_row (take count rows) at s n (omega (arith, many)) (subst (λ (r : Row). r.left < 256) (sym (get_or-take count rows at no_row lt)) byte) there (subst (λ (r : Row). n ≤ r.left) (sym (get_or-take count rows at no_row lt)) le))
-  ]
-    where
-      there : (get_or (take count rows) at no_row).state ≡ s
-      there = subst (λ (k : ℕ). (get_or (take count rows) k no_row).state ≡ s) (sym place) (stands (take count rows) s (omega (arith, many)))
-
-      only : (get_or rows at no_row).left < n → (i : ℕ) → i < length (take count rows) → (get_or (take count rows) i no_row).state ≡ s → n ≤ (get_or (take count rows) i no_row).left → ⊥
-      only less i below e enough =
-          let under : i < count = omega (arith, many) in
-          elim (cases_order i at) [
-            | inl q ↦
-                let same : (get_or (take count rows) i no_row).left ≡ (get_or rows at no_row).left = ap (λ (r : Row). r.left) (get_or-take count rows i no_row under) ∙ ap (λ (k : ℕ). (get_or rows k no_row).left) q in
-                omega arith
-            | inr (inl before) ↦ c.apart i at (before, lt, sym (state_of i under) ∙ e ∙ sym there ∙ state_of at lt)
-            | inr (inr later) ↦ c.apart at i (later, under, sym (state_of at lt) ∙ there ∙ sym e ∙ state_of i under)
-          ]
-
--- the same for the rows that the code writes
-pub chained_added : (rows : List Row) (count : ℕ) (heads links : List ℕ) → Chained (state_at rows) count heads links → (s n at slot : ℕ) → at ≡ count → slot ≡ slot_of s → ((i : ℕ) → i < count → state_at rows i ≡ s → ⊥)
-    → count < length rows → slot_of s < length heads → count < length links → Chained (state_at (set rows at (row s n))) (at + 1) (set heads slot (at + 1)) (set links at (get_or heads slot 0))
-unfolding state_at
-chained_added rows count heads links c s n at slot e q fresh room wide tall =
-    subst (λ (k : ℕ). Chained (state_at (set rows k (row s n))) (k + 1) (set heads slot (k + 1)) (set links k (get_or heads slot 0))) (sym e)
-    (subst (λ (h : ℕ). Chained (state_at (set rows count (row s n))) (count + 1) (set heads h (count + 1)) (set links count (get_or heads h 0))) (sym q)
-    (chained_more (state_at rows) (state_at (set rows count (row s n))) count heads links c s
-    (λ i lt. ap (λ (r : Row). r.state) (get_or-set_other rows count i (row s n) no_row (omega arith)))
-    (ap (λ (r : Row). r.state) (get_or-set_same rows count (row s n) no_row room))
-    fresh wide tall))
+    older : ℕ → Option ℕ
+    older i = newest_of rows (slot_of (state_at rows i)) i

@@ -1,2 +1,3 @@
 pub mod Chaining
-pub mod Listing
+pub mod Finding
+pub mod Recalling

@@ -1,38 +1,22 @@
--- Finding a state among rows without a look at each: the rows of one slot form a chain, from the newest to the oldest. A place
--- in a chain is given as the number of rows up to it, so that 0 is the end.
-use Rattle.std.specs.Prelude.{◌≡◌, ℕ, ◌-◌, ◌<◌, ◌≤◌, List, slice_index, slice_index_or}
+-- Finding a state among rows without a look at each: the rows of one slot form a chain, from the newest to the oldest.
+use Rattle.std.specs.Prelude.{◌≡◌, ℕ, zero, suc, ◌<◌, cond, List, length, Some, None, Option, ◌==◌, slice_index_or}
 use Rattle.memories.specs.declared.row.Row.{Row}
-use Rattle.memories.specs.Rows.{row}
+use Rattle.memories.specs.Rows.{StatesDiffer, row}
 use Rattle.memories.specs.Slots.{slot_of}
 
 -- The state of row i.
-unfoldable pub state_at : List Row → ℕ → ℕ
+abbrev pub state_at : List Row → ℕ → ℕ
 state_at rows i = (slice_index_or rows i (row 0 0)).state
 
--- The head of a slot is past each row of the slot.
-abbrev pub HeadsCover : (ℕ → ℕ) → ℕ → List ℕ → Type 0
-HeadsCover state count heads = (i : ℕ) → i < count → i < slice_index heads (slot_of (state i))
+-- The number of the newest of the first n rows whose state has the slot, if there is one.
+unfoldable pub newest_of : List Row → ℕ → ℕ → Option ℕ
+newest_of rows slot zero = None
+newest_of rows slot (suc n) = let older = newest_of rows slot n in cond (slot_of (state_at rows n) == slot) (Some n) older
 
--- It is no further than the filled rows.
-abbrev pub HeadsWithin : ℕ → List ℕ → Type 0
-HeadsWithin count heads = (h : ℕ) → slice_index heads h ≤ count
-
--- Unless it is 0, it is just after a row of the slot.
-abbrev pub HeadsOwn : (ℕ → ℕ) → List ℕ → Type 0
-HeadsOwn state heads = (h : ℕ) → 0 < slice_index heads h → slot_of (state (slice_index heads h - 1)) ≡ h
-
--- The link of a row is past each older row of its slot.
-abbrev pub LinksCover : (ℕ → ℕ) → ℕ → List ℕ → Type 0
-LinksCover state count links = (i j : ℕ) → (i < j) × (j < count) × (slot_of (state i) ≡ slot_of (state j)) → i < slice_index links j
-
--- It is no further than the row.
-abbrev pub LinksWithin : ℕ → List ℕ → Type 0
-LinksWithin count links = (j : ℕ) → j < count → slice_index links j ≤ j
-
--- Unless it is 0, it is just after a row of the same slot.
-abbrev pub LinksOwn : (ℕ → ℕ) → ℕ → List ℕ → Type 0
-LinksOwn state count links = (j : ℕ) → j < count → 0 < slice_index links j → slot_of (state (slice_index links j - 1)) ≡ slot_of (state j)
-
--- No state stands in two rows.
-abbrev pub Apart : (ℕ → ℕ) → ℕ → Type 0
-Apart state count = (i j : ℕ) → (i < j) × (j < count) × (state i ≡ state j) → ⊥
+-- The heads and links lead through each chain: from a slot to its newest row, and from a row to the next older one of its slot.
+pub record IsChained (rows : List Row) (heads links : List (Option ℕ)) : Type 0 where
+  pub wide : length heads ≡ 256
+  pub tall : length links ≡ 256
+  pub newest : (slot : ℕ) → slot < 256 → slice_index_or heads slot None ≡ newest_of rows slot (length rows)
+  pub older : (i : ℕ) → i < length rows → slice_index_or links i None ≡ newest_of rows (slot_of (state_at rows i)) i
+  pub apart : StatesDiffer rows

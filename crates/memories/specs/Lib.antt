@@ -2,7 +2,7 @@ pub mod Pairs
 pub mod Rows
 pub mod Slots
 pub mod Chains
-pub mod Lists
+pub mod Remembered
 pub mod Keeping
 pub mod Recalling
 pub mod Slotting

@@ -44,6 +44,9 @@ module _ (P : Pairs) (s n : ℕ) where
       go true h = let w = h refl in absurd (never w.left w.enough w.there)
       go false h = refl
 
+  pub recalls_nothing : ((m : ℕ) → P s m ≡ false) → recalls P s n ≡ false
+  recalls_nothing none = recalls_no (λ m le e. both_ways (P s m) (none m) e)
+
 -- only the pairs of the state matter
 pub recalls_alike : (P Q : Pairs) (s n : ℕ) → ((m : ℕ) → P s m ≡ Q s m) → recalls P s n ≡ recalls Q s n
 unfolding recalls_below

@@ -1,5 +1,5 @@
 -- Rows by slot: each state has one row in which it may stand.
-use Rattle.std.specs.Prelude.{ℕ, zero, suc, ◌*◌, ◌/◌, ◌%◌, ◌^◌, false, List, replicate, Some, None, Option, bit_xor, slice_index_or, slice_set}
+use Rattle.std.specs.Prelude.{◌≡◌, ℕ, zero, suc, ◌*◌, ◌/◌, ◌%◌, ◌^◌, false, List, length, replicate, Some, None, Option, bit_xor, slice_index_or, slice_set}
 use Rattle.memories.specs.Pairs.{Pairs}
 use Rattle.memories.specs.declared.row.Row.{Row}
 use Rattle.memories.specs.Rows.{row, holds}
@@ -29,6 +29,11 @@ slotted rows s n = taken (slice_index_or rows (slot_of s) None) s n
 -- The rows after a pair was kept: it replaces what stood in the slot of its state.
 abbrev pub replace_row : List (Option Row) → ℕ → ℕ → List (Option Row)
 replace_row rows s n = slice_set rows (slot_of s) (Some (row s n))
+
+-- A keep made the rows of a slot memory into these, and there are still 256.
+pub record IsReplaced (old : List (Option Row)) (s n : ℕ) (new : List (Option Row)) : Type 0 where
+  pub value : new ≡ replace_row old s n
+  pub all : length new ≡ 256
 
 -- The rows where every slot is vacant.
 abbrev pub vacant_rows : List (Option Row)

@@ -1,3 +1,4 @@
+//! What a memory is.
 ghost use Rattle.std.specs.Prelude.{◌≡◌, ℕ};
 ghost use Rattle.memories.specs.Pairs.{Emptied, Kept, Pairs, recalls};
 
@@ -12,6 +13,7 @@ pub trait Memory {
     /// What emptying does to this kind of memory.
     ghost empties: { Self → Self → Type 0 };
 
+    // Stays two parameters, here and at `keep`: what is asked is a bound on the left, not a pair that the memory has.
     /// Whether the memory has a pair with this state and a left of at least this one.
     fn recall(&self, state: u64, left: u8) -> bool
         ensures value { result ≡ recalls (has self.now) state left };

@@ -1,10 +1,11 @@
+//! A memory that forgets all at once.
 ghost use Rattle.std.specs.Prelude.{◌≡◌, false};
 ghost use Rattle.std.proofs.Common.{rules};
 
 use crate::memory::Memory;
 
 /// A memory that keeps nothing and recalls nothing.
-#[derive(Drop)]
+#[derive(Clone, Copy, PartialEq, Eq, Debug, Default)]
 pub struct NoMemory;
 
 impl Memory for NoMemory {
@@ -18,11 +19,11 @@ impl Memory for NoMemory {
 
     ghost forgets_all = { Prim.search rules };
 
-    fn recall(&self, state: u64, left: u8) -> bool {
+    fn recall(&self, _state: u64, _left: u8) -> bool {
         false
     }
 
-    fn keep(&mut self, state: u64, left: u8) {}
+    fn keep(&mut self, _state: u64, _left: u8) {}
 
     fn empty(&mut self) {}
 }

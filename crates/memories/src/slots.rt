@@ -1,3 +1,4 @@
+//! The slots of states.
 ghost use Rattle.std.specs.Prelude.{◌≡◌, ◌<◌};
 ghost use Rattle.memories.specs.Slots.{slot_of};
 
@@ -6,9 +7,5 @@ pub fn slot_of(state: u64) -> usize
     ensures value { result ≡ slot_of state }
     ensures within { result < 256 }
 {
-    let mut slot: u64 = 0;
-    for i in 0..8u32 {
-        slot ^= (state >> (8 * i)) & 0xff;
-    }
-    slot as usize
+    usize::from(state.to_le_bytes().iter().fold(0, |slot, byte| slot ^ byte))
 }

@@ -1,4 +1,4 @@
 pub mod Spreading
+pub mod Tasking
 pub mod Planning
-pub mod Holding
 pub mod Judging

@@ -1,2 +1,2 @@
-pub mod Driven
+pub mod Jobs
 pub mod Planned

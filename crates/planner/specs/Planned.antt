@@ -1,63 +1,59 @@
 -- What the text that is printed of a sheet has to do with the sheet's task.
-use Rattle.std.specs.Prelude.{◌≡◌, ℕ, ◌≤◌, List, length, take, Ok, Err, Result}
+use Rattle.std.specs.Prelude.{◌≡◌, ℕ, ◌<◌, ◌≤◌, List, [], length, Ok, Err, Result, slice_index_or}
 use Rattle.tasks.specs.Meaning.{Meaning}
-use Rattle.tasks.specs.Masked.{masked}
-use Rattle.tasks.specs.Tables.{table_task}
 use Rattle.tasks.specs.States.{Shortest, Solvable}
 use Rattle.search.specs.Ceiling.{ceiling}
 use Rattle.search.specs.declared.verdict.Verdict.{Verdict}
 use Rattle.search.specs.declared.verdict.Verdict.TheVariants as verdict
 use Rattle.sheet.specs.declared.refusal.Refusal.{Refusal}
 use Rattle.sheet.specs.Actions.{checked}
-use Rattle.sheet.specs.Report.{report_text, refusal_text, Written}
+use Rattle.sheet.specs.Bodies.{over}
+use Rattle.sheet.specs.Grammar.{JobSheet, WellFormed, meaning, spell}
+use Rattle.sheet.specs.Report.{Written, refusal_text, report_text, text}
 use Rattle.sheet.specs.Sheet.{Read}
-use Rattle.planner.specs.declared.job.Job.{Job}
-use Rattle.planner.specs.declared.job.Unread.{Unread}
-use Rattle.planner.specs.declared.job.Unread.TheVariants as unread
 use Rattle.planner.specs.declared.told.Told.{Told}
-use Rattle.planner.specs.declared.told.Untold.{Untold}
 use Rattle.planner.specs.declared.told.Told.TheVariants as told
-
--- The task that a sheet's counts and tables mean.
-abbrev pub task_of : Read → Meaning
-task_of x = table_task x.counts.facts x.counts.actions x.tables.needs x.tables.makes x.tables.start x.tables.goal
-
--- A sheet is read as a job: its task and its bound, which is at most 30; or it is refused.
-abbrev pub ReadAs : List ℕ → Result Job Unread → Type 0
-ReadAs bs (Ok job) = (x : Read) × (checked bs ≡ Ok x) × (job.bound ≡ x.counts.bound) × (job.bound ≤ 30) × (masked job.task ≡ task_of x)
-ReadAs bs (Err (unread.Refused e)) = checked bs ≡ Err e
-ReadAs bs (Err unread.NoTask) = Unit {0}
+use Rattle.planner.specs.declared.told.Untold.{Untold}
+use Rattle.planner.specs.declared.told.Untold.TheVariants as untold
+use Rattle.planner.specs.Jobs.{IsFaultOf, task_of}
 
 -- A verdict is right of a task and a bound: a plan is a shortest, where there is none no plan of up to the bound's number of
 -- actions exists, and where the search is unfinished the amount of work that always decides is more than ten million steps.
 abbrev pub Judged : Meaning → ℕ → Verdict → List ℕ → Type 0
 Judged m bound verdict.Blank plan = ⊥
 Judged m bound verdict.Unfinished plan = ceiling m bound ≤ 10000000 → ⊥
-Judged m bound (verdict.Found n) plan = (n ≤ bound) × Shortest m (take n plan)
+Judged m bound (verdict.Found n) plan = (n ≤ bound) × (length plan ≡ n) × Shortest m plan
 Judged m bound (verdict.None k) plan = (k ≡ bound) × (Solvable m bound → ⊥)
 
--- What was written is the report of a verdict that is right of a task and a bound; else nothing is written.
-abbrev pub Reported : List ℕ → Meaning → ℕ → List ℕ → List ℕ → Result Told Untold → Type 0
-Reported bs m bound before after (Ok (told.Report n)) =
-    (v : Verdict) × (plan : List ℕ) × Judged m bound v plan × Written (report_text bs v plan (length before)) before after (Ok n)
-Reported bs m bound before after (Ok (told.Refusal n)) = ⊥
-Reported bs m bound before after (Err fault) = after ≡ before
+-- The report on a job: its bytes are those of a well-formed sheet, and what was written is the text of a verdict that is right
+-- of the sheet's task and bound, with the plan's actions by the names that the sheet gives them.
+pub record TellsTheJob (bs before after : List ℕ) (n : ℕ) : Type 0 where
+  pub sheet : JobSheet
+  pub well_formed : WellFormed sheet
+  pub spelled : bs ≡ spell sheet
+  pub accepted : checked bs ≡ Ok (meaning sheet)
+  pub verdict : Verdict
+  pub plan : List ℕ
+  pub right : Judged (task_of (meaning sheet)) sheet.bound verdict plan
+  pub written : Written (report_text bs verdict plan (length before)) before after (Ok n)
+  pub named : after ≡ over (text (λ a. slice_index_or sheet.acts a []) verdict plan) before
 
--- What was written is the refusal of a sheet; else nothing is written.
-abbrev pub Refused : Unread → List ℕ → List ℕ → Result Told Untold → Type 0
-Refused (unread.Refused e) before after (Ok (told.Report n)) = ⊥
-Refused (unread.Refused e) before after (Ok (told.Refusal n)) = Written (refusal_text e (length before)) before after (Ok n)
-Refused (unread.Refused e) before after (Err fault) = after ≡ before
-Refused unread.NoTask before after (Ok t) = ⊥
-Refused unread.NoTask before after (Err fault) = after ≡ before
+-- The refusal of a sheet: what was written is the text of its first fault.
+pub record TellsTheFault (bs before after : List ℕ) (n : ℕ) : Type 0 where
+  pub fault : Refusal
+  pub told : IsFaultOf bs fault
+  pub written : Written (refusal_text fault (length before)) before after (Ok n)
 
--- What was written is the report on the sheet's task, or the refusal of the sheet; else nothing is written.
+-- Nothing was written: the buffer has fewer than 800 bytes, or the sheet is accepted and there is no room for a search.
+abbrev pub NotTold : List ℕ → List ℕ → List ℕ → Untold → Type 0
+NotTold bs before after untold.BufferTooShort = (length before < 800) × (after ≡ before)
+NotTold bs before after untold.NoRoom = (x : Read) × (checked bs ≡ Ok x) × (after ≡ before)
+
+-- What is printed of the bytes of a sheet.
 abbrev pub Planned : List ℕ → List ℕ → List ℕ → Result Told Untold → Type 0
-Planned bs before after (Ok (told.Report n)) =
-    (x : Read) × (checked bs ≡ Ok x) × Reported bs (task_of x) x.counts.bound before after (Ok (told.Report n))
-Planned bs before after (Ok (told.Refusal n)) =
-    (e : Refusal) × (checked bs ≡ Err e) × Written (refusal_text e (length before)) before after (Ok n)
-Planned bs before after (Err fault) = after ≡ before
+Planned bs before after (Ok (told.Report n)) = TellsTheJob bs before after n
+Planned bs before after (Ok (told.Refusal n)) = TellsTheFault bs before after n
+Planned bs before after (Err why) = NotTold bs before after why
 
 -- How many bytes a text has.
 abbrev pub size : Told → ℕ

@@ -1,70 +1,41 @@
-//! Planning for a task.
-ghost use Rattle.std.specs.Prelude.{◌≡◌, ℕ, ◌≤◌, length, IfOk};
-ghost use Rattle.search.specs.Machines.Stage.{blank};
-ghost use Rattle.search.specs.Stepped.{machine_of};
-ghost use Rattle.tasks.specs.Bundle.{meaning};
+//! Planning for a job.
+ghost use Rattle.std.specs.Prelude.{IfOk};
 ghost use Rattle.tasks.specs.Masked.{masked};
-ghost use Rattle.planner.specs.Driven.{Driven};
 ghost use Rattle.planner.specs.Planned.{Judged};
 
+use crate::job::Job;
 use estimators::estimator::Estimator;
-use estimators::goal_count::GoalCount;
-use memories::list::ListMemory;
 use memories::memory::Memory;
+use search::plan::Plan;
 use search::record::Search;
 use search::verdict::Verdict;
 use std::alloc::{AllocError, Global};
-use tasks::TableTask;
-use tasks::task::Task;
 
-/// Plans for the task with at most `bound` actions, and writes what is found to the front of `plan`.
-pub fn judge(
+/// What planning came to: the verdict, and the plan, which is empty where none was found.
+#[derive(Drop)]
+pub struct Outcome {
+    pub verdict: Verdict,
+    pub plan: Plan,
+}
+
+/// Plans for the job: opens a search, makes a million steps ten times, or fewer where a verdict falls, and asks what stands.
+pub fn judge<M: Memory, E: Estimator>(
     heap: Global,
-    task: &TableTask,
-    bound: u8,
-    plan: &mut [u8],
-) -> Result<Verdict, AllocError>
-    requires few { bound ≤ 30 }
-    requires room { 30 ≤ length plan.old }
-    ensures value { IfOk result (λ v. Judged (masked task.now) bound v plan.new) }
+    job: &Job,
+    memory: &mut M,
+    estimator: &E,
+) -> Result<Outcome, AllocError>
+    ensures value { IfOk result (λ o. Judged (masked job.now.task) job.now.bound o.verdict o.plan.items) }
 {
     let mut search = Search::new(heap)?;
-    let mut memory = ListMemory::new();
-    Ok(run(&mut search, task, &mut memory, &GoalCount, bound, plan))
-}
-
-// Opens a blank search, makes ten million steps, or fewer where a verdict falls, and asks what stands.
-fn run<T: Task, M: Memory, E: Estimator>(
-    search: &mut Search,
-    task: &T,
-    memory: &mut M,
-    estimator: &E,
-    bound: u8,
-    plan: &mut [u8],
-) -> Verdict
-    requires blank { (machine_of search.old).stage ≡ blank }
-    requires few { bound ≤ 30 }
-    requires room { 30 ≤ length plan.old }
-    ensures value { Judged (meaning T.Task task.now) bound result plan.new }
-{
-    let _ = search.open(task, memory, bound);
-    drive(search, task, memory, estimator);
-    let _ = search.plan(plan);
-    search.verdict()
-}
-
-// Makes a million steps ten times.
-fn drive<T: Task, M: Memory, E: Estimator>(
-    search: &mut Search,
-    task: &T,
-    memory: &mut M,
-    estimator: &E,
-)
-    ensures { Driven (meaning T.Task task.now) (E.Estimator.hopeless estimator.now (meaning T.Task task.now)) (machine_of search.old) (M.Memory.has memory.old) 10000000 (machine_of search.new) (M.Memory.has memory.new) }
-{
-    let mut times = 0u32;
-    while times < 10 {
-        let _ = search.advance(task, memory, estimator, 1_000_000);
-        times += 1;
+    search.open(&job.task, memory, job.bound).unwrap();
+    for _ in 0..10u32 {
+        search
+            .advance(&job.task, memory, estimator, 1_000_000)
+            .unwrap();
     }
+    Ok(Outcome {
+        verdict: search.verdict(),
+        plan: search.standing(),
+    })
 }

@@ -3,6 +3,7 @@
 
 mod job;
 mod judge;
+mod read;
 pub mod text;
 pub mod told;
 

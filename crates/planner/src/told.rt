@@ -1,5 +1,10 @@
 //! What the text that was written tells.
-use sheet::fault::Fault;
+ghost use Rattle.std.specs.Prelude.{◌≡◌};
+ghost use Rattle.planner.specs.declared.told.Untold.TheVariants.{NoRoom};
+
+use std::alloc::AllocError;
+use std::error::Error;
+use std::fmt;
 
 /// The text that was written, by its number of bytes.
 #[derive(Clone, Copy, PartialEq, Eq, Debug)]
@@ -13,10 +18,27 @@ pub enum Told {
 /// Why nothing was written.
 #[derive(Clone, Copy, PartialEq, Eq, Debug)]
 pub enum Untold {
-    /// The report is refused.
-    Fault(Fault),
-    /// The sheet's tables are no task's.
-    NoTask,
+    /// The buffer has fewer than 800 bytes.
+    BufferTooShort,
     /// There is no room for a search.
     NoRoom,
+}
+
+impl fmt::Display for Untold {
+    fn fmt<W: fmt::Write>(&self, f: &mut fmt::Formatter<W>) -> fmt::Result {
+        match self {
+            Untold::BufferTooShort => write!(f, "the buffer has fewer than 800 bytes"),
+            Untold::NoRoom => write!(f, "there is no room for a search"),
+        }
+    }
+}
+
+impl Error for Untold {}
+
+impl From<AllocError> for Untold {
+    ghost from_gives = { λ _ e. e ≡ NoRoom };
+
+    fn from(_error: AllocError) -> Untold {
+        Untold::NoRoom
+    }
 }

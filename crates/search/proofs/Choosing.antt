@@ -1,15 +1,13 @@
 -- How a step is split. The facts that are undecided after the step are weighed from the lowest on; the others have no distance,
 -- so passing over them changes nothing. Of two actions or more, either half has one.
-use Rattle.std.proofs.Common.{◌≡◌, ℕ, zero, suc, ◌+◌, ◌-◌, ◌^◌, ◌<◌, ◌≤◌, Bool, true, false, cond, not, ◌&&◌, ◌||◌, eqb, ltb, leb, ◌⊎◌, Some, None, Option, sym, refl, ap, ◌∙◌, subst, ap₂, inl, inr, arith}
+use Rattle.std.proofs.Common.{◌≡◌, ℕ, zero, suc, ◌+◌, ◌-◌, ◌<◌, ◌≤◌, Bool, true, false, cond, not, ◌&&◌, ◌||◌, eqb, ltb, leb, ◌⊎◌, Some, None, Option, sym, refl, ap, ◌∙◌, subst, ap₂, inl, inr, arith}
 use mathlib.Core.Path.{fun_ext}
+use Rattle.std.proofs.Math.Bool.{and-true, and_self_left}
 use Rattle.std.proofs.lemmas.Bool.{and_from, and_left, and_parts, and_right, both_ways, cases_Bool, cases_eq, cases_lt, eq-eqb, le-leb, leb-true, lt-ltb, ltb-true, ne_eqb, not_from_false, not-true}
 use Rattle.sets.specs.Counts.{Empty, Lowest, Popped, count}
-use Rattle.sets.specs.Sets.{among, has, holds}
+use Rattle.sets.specs.Sets.{among, has, holds, ActionSet, FactSet}
 use Rattle.sets.specs.Signs.{says}
-use Rattle.sets.specs.declared.actions.ActionSet.{ActionSet}
-use Rattle.sets.specs.declared.facts.FactSet.{FactSet}
 use Rattle.sets.proofs.Counting.{count_ext}
-use Rattle.sets.proofs.Membership.{action_below}
 use Rattle.tasks.specs.Meaning.{Meaning}
 use Rattle.estimators.specs.Tallies.{count_cut}
 use Rattle.filter.specs.declared.part.Part.{Part}
@@ -17,31 +15,20 @@ use Rattle.filter.specs.Parts.{level_at, step_at, structure}
 use Rattle.filter.specs.Structures.{Structure}
 use Rattle.filter.proofs.Uniqueness.{both_follow}
 use Rattle.search.specs.Parts.{OfTask}
-use Rattle.search.specs.Steps.{best_below, better, distance, falsifies, first_half, lowest, lowest_from}
+use Rattle.search.specs.Steps.{best_below, better, distance, falsifies, first_half, lowest}
+use Rattle.search.proofs.Lowest.{lowest_is as first_passing}
 
 -- The lowest member
 
-lowest_from_is : (n i k : ℕ) (g : ℕ → Bool) → i ≤ k → k < i + n → Lowest g k → lowest_from n i g ≡ k
-unfolding lowest_from
-lowest_from_is zero i k g from to low = absurd (omega arith)
-lowest_from_is (suc n) i k g from to low = elim (cases_eq i k) [
-  | inl e ↦ rw (subst (λ (j : ℕ). g j ≡ true) (sym e) low.member) e
-  | inr ne ↦ elim (cases_Bool (g i)) [
-    | inl h ↦ absurd (let l = low.least i h in omega arith)
-    | inr h ↦ rw h (lowest_from_is n (suc i) k g (omega arith) (omega arith) low)
-  ]
-]
-
 pub lowest_is : (n k : ℕ) (g : ℕ → Bool) → k < n → Lowest g k → lowest n g ≡ k
-unfolding lowest
-lowest_is n k g lt low = lowest_from_is n 0 k g (omega arith) (omega arith) low
+lowest_is n k g lt low = first_passing n g k (omega arith) (λ _. low.member) (λ j l. elim (cases_Bool (g j)) [ inl e ↦ absurd (let q = low.least j e in omega arith) | inr e ↦ e ])
 
 -- the lowest action alone
-pub alone : (left empty made : ActionSet) (k n : ℕ) → left.bits < 2 ^ 128 → Lowest (among left) k → ((a : ℕ) → among left a ≡ true → a < n)
+pub alone : (left empty made : ActionSet) (k n : ℕ) → n ≤ 128 → Lowest (among left) k → ((a : ℕ) → among left a ≡ true → a < n)
     → ((a : ℕ) → among empty a ≡ false) → ((a : ℕ) → among made a ≡ (among empty a || (ltb k 128 && eqb a k)))
     → (a : ℕ) → among made a ≡ (among left a && eqb a (lowest n (among left)))
-alone left empty made k n small low within none with a =
-    with a ∙ ap₂ (λ (x y : Bool). x || (y && eqb a k)) (none a) (lt-ltb k 128 (action_below left k small low.member))
+alone left empty made k n few low within none with a =
+    with a ∙ ap₂ (λ (x y : Bool). x || (y && eqb a k)) (none a) (lt-ltb k 128 (let l = within k low.member in omega arith))
     ∙ elim (cases_eq a k) [
       | inl e ↦ rw (eq-eqb a k e, subst (λ (j : ℕ). among left j ≡ true) (sym e) low.member)
       | inr ne ↦ ne_eqb a k ne ∙ sym (and_right (among left a) (eqb a k) (ne_eqb a k ne))
@@ -78,14 +65,6 @@ module _ (m : Meaning) (q : Structure) (i : ℕ) where
       go (inl e) lower = ap (best_below m q i) (sym e)
       go (inr ne) lower =
           ap (λ (d : Option ℕ). better m q k d (best_below m q i k)) (no_distance k (none k (omega arith) (omega arith))) ∙ lower (omega arith)
-
-and_true : (b : Bool) → b ≡ (b && true)
-and_true true = refl
-and_true false = refl
-
-twice : (x s : Bool) → (x && s) ≡ (x && (x && s))
-twice true s = refl
-twice false s = refl
 
 module _ (m : Meaning) (p : Part) (i : ℕ) (of : OfTask m p) (lt : i < p.round) where
   left_is : (a : ℕ) → (structure p).left i a ≡ among (step_at p i) a
@@ -129,7 +108,7 @@ module _ (m : Meaning) (p : Part) (i : ℕ) (of : OfTask m p) (lt : i < p.round)
     few = omega arith;
     best_is = refl;
     rest_is = λ f. are f ∙ ap₂ (λ (x y : Bool). x && y) (sym (possible_is f true)) (sym (possible_is f false))
-        ∙ and_true (undecided (structure p) i f) ∙ ap (λ (b : Bool). undecided (structure p) i f && b) (sym (le-leb 0 f (omega arith)));
+        ∙ sym (and-true (undecided (structure p) i f)) ∙ ap (λ (b : Bool). undecided (structure p) i f && b) (sym (le-leb 0 f (omega arith)));
   }
 
   module _ (rest : FactSet) (best : Option (ℕ × ℕ)) (w : Weighed m (structure p) i rest best) where
@@ -192,15 +171,15 @@ module _ (m : Meaning) (p : Part) (i : ℕ) (of : OfTask m p) (lt : i < p.round)
       → (a : ℕ) → among made a ≡ (among (step_at p i) a && first_half m (structure p) i (best_below m (structure p) i m.facts) a)
   unfolding first_half falsifies
   removers_first b best removers are made made_is a =
-      made_is a ∙ ap (λ (x : Bool). among (step_at p i) a && x) (are a) ∙ twice (among (step_at p i) a) (says (m.makes a b.1) false)
+      made_is a ∙ ap (λ (x : Bool). among (step_at p i) a && x) (are a) ∙ sym (and_self_left (among (step_at p i) a) (says (m.makes a b.1) false))
       ∙ ap (λ (x : Bool). among (step_at p i) a && (x && says (m.makes a b.1) false)) (sym (left_is a))
       ∙ ap (λ (o : Option (ℕ × ℕ)). among (step_at p i) a && first_half m (structure p) i o a) best
 
   pub lowest_first : None ≡ best_below m (structure p) i m.facts
-      → (made : ActionSet) → ((n : ℕ) → ((a : ℕ) → among (step_at p i) a ≡ true → a < n) → (a : ℕ) → among made a ≡ (among (step_at p i) a && eqb a (lowest n (among (step_at p i)))))
+      → (made : ActionSet) → (((a : ℕ) → among (step_at p i) a ≡ true → a < m.actions) → (a : ℕ) → among made a ≡ (among (step_at p i) a && eqb a (lowest m.actions (among (step_at p i)))))
       → (a : ℕ) → among made a ≡ (among (step_at p i) a && first_half m (structure p) i (best_below m (structure p) i m.facts) a)
   unfolding first_half
   lowest_first best made made_is a =
-      made_is m.actions left_below a
+      made_is left_below a
       ∙ ap (λ (g : ℕ → Bool). among (step_at p i) a && eqb a (lowest m.actions g)) (sym (fun_ext left_is))
       ∙ ap (λ (o : Option (ℕ × ℕ)). among (step_at p i) a && first_half m (structure p) i o a) best

@@ -45,9 +45,6 @@ pub short : AShallowStackIsShort
 short A k es s = omega (arith, both es, few_parts A k es s, few_pairs A k 0 es (omega arith) (above_none A k es s) s)
 
 -- with sets of 128 actions and rounds up to 30
-pub few_entries : (k : ℕ) (es : List Entry) → k ≤ 30 → Shallow 128 k es → length es ≤ 3841
-few_entries k es le s = omega (arith, short 128 k es s)
-
 above_less : (l r : ℕ) (es : List Entry) → r ≤ l → Above l es → Above r es
 above_less l r [] le a = tt
 above_less l r (part p from ∷ es) le a = above_less l r es le a

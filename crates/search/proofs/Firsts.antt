@@ -1,11 +1,11 @@
 -- The first part of a round, level by level: a value is left unless the start or a goal says the opposite.
 use Rattle.std.proofs.Common.{◌≡◌, ℕ, ◌<◌, ◌≤◌, min, Bool, true, false, not, ◌&&◌, eqb, ltb, leb, List, length, get_or, set, sym, refl, ap, ◌∙◌, ap₂, inl, inr, arith, length-set}
 use Rattle.std.proofs.lemmas.List.{get_or-set_same, get_or-set_other}
+use Rattle.std.proofs.Math.Bool.{and-true, and_assoc}
 use Rattle.std.proofs.lemmas.Bool.{cases_eq, cases_lt, eq-eqb, ne_eqb, le-leb, le-ltb, lt-leb, lt-ltb}
 use Rattle.sets.specs.Bits.{bit}
-use Rattle.sets.specs.Sets.{among, has}
+use Rattle.sets.specs.Sets.{among, has, ActionSet}
 use Rattle.sets.specs.Signs.{is, says}
-use Rattle.sets.specs.declared.actions.ActionSet.{ActionSet}
 use Rattle.sets.specs.declared.literals.Literals.{Literals}
 use Rattle.tasks.specs.Meaning.{Meaning, Lawful, value}
 use Rattle.tasks.specs.Rows.{starts}
@@ -83,12 +83,8 @@ module _ (m : Meaning) (k : ℕ) (levels : List Literals) (all first last agains
         ∙ ap (λ (x : Literals). has x f v) (get_or-set_same levels 0 first no_literals (omega arith))
         ∙ first_is f v ∙ ap (λ (b : Bool). ltb f m.facts && not (b && says (m.start f) (not v))) (sym (eq-eqb i 0 e))
     | inr ne ↦ ap (λ (x : Literals). has x f v) (get_or-set_other levels 0 i first no_literals ne ∙ alike i lt)
-        ∙ all_is f v ∙ and_true (ltb f m.facts) ∙ ap (λ (b : Bool). ltb f m.facts && not (b && says (m.start f) (not v))) (sym (ne_eqb i 0 ne))
+        ∙ all_is f v ∙ sym (and-true (ltb f m.facts)) ∙ ap (λ (b : Bool). ltb f m.facts && not (b && says (m.start f) (not v))) (sym (ne_eqb i 0 ne))
   ]
-    where
-      and_true : (b : Bool) → b ≡ (b && true)
-      and_true true = refl
-      and_true false = refl
 
   pub first_levels : (i f : ℕ) (v : Bool) → i ≤ k → has (get_or (set (set levels 0 first) k less) i no_literals) f v ≡ (first_part m k).possible i f v
   unfolding first_part
@@ -112,11 +108,6 @@ again : (l b a : Bool) → (l && ((l && b) && a)) ≡ ((l && b) && a)
 again true b a = refl
 again false b a = refl
 
-and_assoc : (l b a : Bool) → (l && (b && a)) ≡ ((l && b) && a)
-and_assoc true b a = refl
-and_assoc false b a = refl
-
--- a part that has the usable actions at each step and these levels is the first part
 pub first_structure : (m : Meaning) → Lawful m → (p : Part) (usable : ActionSet) → p.round ≤ 30 → ((a : ℕ) → among usable a ≡ m.usable a)
     → ((i : ℕ) → i < 30 → step_at p i ≡ usable)
     → ((i f : ℕ) (v : Bool) → i ≤ p.round → has (level_at p i) f v ≡ (first_part m p.round).possible i f v)
@@ -125,6 +116,6 @@ unfolding first_part
 first_structure m law p usable few usable_are steps levels =
     same_structure (structure p) (first_part m p.round) refl
     (λ i a. when_below i p.round (among (step_at p i) a) (ltb a m.actions && m.usable a) (λ l. ap (λ (s : ActionSet). among s a) (steps i (omega arith)) ∙ usable_are a ∙ usable_is m law a)
-    ∙ and_assoc (ltb i p.round) (ltb a m.actions) (m.usable a))
+    ∙ sym (and_assoc (ltb i p.round) (ltb a m.actions) (m.usable a)))
     (λ i f v. when_upto i p.round (has (level_at p i) f v) ((first_part m p.round).possible i f v) (levels i f v)
     ∙ again (leb i p.round) (ltb f m.facts) _)

@@ -11,7 +11,6 @@ pub mod Parting
 pub mod Stacking
 pub mod Running
 pub mod Forgetting
-pub mod Scanning
 pub mod Partial
 pub mod Telling
 pub mod Settling

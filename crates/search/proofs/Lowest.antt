@@ -1,6 +1,8 @@
 -- The lowest number that passes a test, and whether some number does.
-use Rattle.std.proofs.Common.{◌≡◌, ℕ, zero, suc, ◌+◌, ◌<◌, ◌≤◌, Bool, true, false, cond, ◌⊎◌, refl, ap, ◌∙◌, subst, inl, inr, arith}
-use Rattle.std.proofs.lemmas.Bool.{both_ways, cases_eq, cases_lt, or_cases, or_left, or_right}
+use Rattle.std.proofs.Common.{◌≡◌, ℕ, zero, suc, ◌+◌, ◌<◌, ◌≤◌, Bool, true, false, cond, ◌⊎◌, length, MatchBool, sym, refl, ap, ◌∙◌, subst, inl, inr, arith}
+use Rattle.std.specs.List.{AllWithin, HoldsAt, range_with_len}
+use Rattle.std.proofs.lemmas.List.FromFn.{get_or-range_with_len, length-range_with_len}
+use Rattle.std.proofs.lemmas.Bool.{both_ways, cases_Bool, cases_eq, cases_lt, or_cases, or_left, or_right}
 use Rattle.search.specs.Steps.{lowest_from, lowest, some_below}
 
 below_from : (n i : ℕ) (g : ℕ → Bool) (j : ℕ) → i ≤ j → j < lowest_from n i g → g j ≡ false
@@ -76,3 +78,19 @@ some_not n g e i lt = go (g i) refl
     go : (b : Bool) → g i ≡ b → b ≡ false
     go true h = absurd (both_ways (some_below n g) e (some_in n g i lt h))
     go false h = refl
+
+-- an answer about each number from 0 on says whether some number below n passes
+pub some_of_range : (n : ℕ) (g : ℕ → Bool) (r : Bool)
+    → MatchBool r ((k : ℕ) × (k < length (range_with_len 0 n)) × HoldsAt (λ i. g i ≡ true) (range_with_len 0 n) k) (AllWithin (λ i. g i ≡ false) (range_with_len 0 n) 0 (length (range_with_len 0 n)))
+    → r ≡ some_below n g
+some_of_range n g true h =
+    let below : h.0 < n = omega (arith, h.1, length-range_with_len 0 n) in
+    let at : 0 + h.0 ≡ h.0 = omega arith in
+    sym (some_in n g h.0 below (subst (λ (j : ℕ). g j ≡ true) (get_or-range_with_len 0 n h.0 0 below ∙ at) (h.2 0)))
+some_of_range n g false h = elim (cases_Bool (some_below n g)) [
+  | inl e ↦
+      let w = some_witness n g e in
+      let at : 0 + w.0 ≡ w.0 = omega arith in
+      absurd (both_ways (g w.0) (subst (λ (j : ℕ). g j ≡ false) (get_or-range_with_len 0 n w.0 0 w.1 ∙ at) (h w.0 0 (omega arith) (omega (arith, w.1, length-range_with_len 0 n)))) w.2)
+  | inr e ↦ sym e
+]

@@ -1,5 +1,5 @@
 -- The plan of a part with an action left at each step: the lowest action of each step, in the order of the steps.
-use Rattle.std.proofs.Common.{◌≡◌, ℕ, zero, suc, ◌+◌, ◌<◌, ◌≤◌, true, false, ◌⊎◌, List, [], ◌∷◌, length, get_or, take, sym, refl, ap, ◌∙◌, ap₂, inl, inr, arith}
+use Rattle.std.proofs.Common.{◌≡◌, ℕ, zero, suc, ◌+◌, ◌<◌, ◌≤◌, true, false, ◌⊎◌, [], ◌∷◌, ◌++◌, sym, ap, ◌∙◌, inl, inr, arith}
 use Rattle.std.proofs.lemmas.Bool.{both_ways, cases_Bool, cases_lt}
 use Rattle.sets.specs.Counts.{Lowest, count}
 use Rattle.sets.proofs.Counting.{none_count}
@@ -12,21 +12,20 @@ use Rattle.filter.specs.Structures.{Structure}
 use Rattle.search.specs.Steps.{lowest, plan_from}
 use Rattle.search.specs.Parts.{OfTask}
 use Rattle.search.proofs.Counted.{count_member}
-use Rattle.search.proofs.Scanning.{lowest_is}
+use Rattle.search.proofs.Lowest.{lowest_is}
 use Rattle.search.proofs.Partial.{left_inside, left_past}
 
-pub plan_read : (m : Meaning) (q : Structure) (n s : ℕ) (xs : List ℕ) → n ≤ length xs → ((j : ℕ) → j < n → get_or xs j 0 ≡ lowest m.actions (q.left (s + j))) → take n xs ≡ plan_from m q n s
+pub plan_more : (m : Meaning) (q : Structure) (n s : ℕ) → plan_from m q (n + 1) s ≡ plan_from m q n s ++ lowest m.actions (q.left (s + n)) ∷ []
 unfolding plan_from
-plan_read m q zero s xs few each = refl
-plan_read m q (suc n) s [] few each = absurd (omega arith)
-plan_read m q (suc n) s (x ∷ xs) few each =
-    ap₂ (λ (y : ℕ) (ys : List ℕ). y ∷ ys) (each 0 (omega arith) ∙ ap (λ i. lowest m.actions (q.left i)) (let z : s + 0 ≡ s = omega arith in z))
-    (plan_read m q n (suc s) xs (omega arith) (λ j l. each (suc j) (omega arith) ∙ ap (λ i. lowest m.actions (q.left i)) (let z : s + suc j ≡ suc s + j = omega arith in z)))
+plan_more m q zero s = ap (λ i. lowest m.actions (q.left i) ∷ []) (let z : s ≡ s + 0 = omega arith in z)
+plan_more m q (suc n) s =
+    ap (λ k. plan_from m q k s) (let e : suc n + 1 ≡ suc (n + 1) = omega arith in e)
+    ∙ ap (λ xs. lowest m.actions (q.left s) ∷ xs) (plan_more m q n (suc s) ∙ ap (λ i. plan_from m q n (suc s) ++ lowest m.actions (q.left i) ∷ []) (let z : suc s + n ≡ s + suc n = omega arith in z))
 
 module _ (m : Meaning) (p : Part) (of : OfTask m p) (i : ℕ) (inside : i < p.round) where
   -- the lowest stored action is the lowest left
   pub lowest_stored : (a : ℕ) → Lowest (among (step_at p i)) a → a ≡ lowest m.actions ((structure p).left i)
-  lowest_stored a low = lowest_is ((structure p).left i) m.actions a (below (cases_lt a m.actions)) none here
+  lowest_stored a low = sym (lowest_is m.actions ((structure p).left i) a (let l = below (cases_lt a m.actions) in omega arith) (λ _. here) none)
     where
       here : (structure p).left i a ≡ true
       here = left_inside m p of i a inside ∙ low.member

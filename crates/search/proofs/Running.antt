@@ -1,5 +1,6 @@
 -- Every run keeps what the law needs, call by call: the invariant, and that what was counted and what can still be made are at most the ceiling.
-use Rattle.std.proofs.Common.{◌≡◌, ℕ, suc, ◌+◌, ◌<◌, ◌≤◌, Bool, true, false, cond, ◌||◌, ltb, leb, List, [], ◌∷◌, ◌++◌, length, take, drop, Some, None, Ok, Err, Option, Result, sym, refl, ap, subst, add-zero, add_assoc, arith}
+use Rattle.std.proofs.Common.{◌≡◌, ℕ, suc, ◌+◌, ◌<◌, ◌≤◌, Bool, true, false, cond, ◌||◌, ltb, leb, List, ◌∷◌, length, take, drop, Some, None, Ok, Err, Option, sym, refl, ap, subst, add-zero, add_assoc, arith}
+use Rattle.std.proofs.Math.Seq.{take-append_seam}
 use Rattle.std.proofs.lemmas.Bool.{leb-false}
 use Rattle.tasks.specs.Meaning.{Meaning, Lawful}
 use Rattle.tasks.specs.States.{Shortest, Solvable}
@@ -13,12 +14,10 @@ use Rattle.search.specs.Machines.{Entry, Stage, Machine, Made}
 use Rattle.search.specs.Machines.Entry.{part}
 use Rattle.search.specs.Machines.Stage.{blank, unfinished, found, none}
 use Rattle.search.specs.Steps.{put_up, Step}
-use Rattle.search.specs.Calls.{refusal, Keeps, Planning, Steps}
+use Rattle.search.specs.Calls.{refusal, Keeps, Steps}
 use Rattle.search.specs.Calls.Steps.{no_step, one_more}
 use Rattle.search.specs.Ceiling.{ceiling}
-use Rattle.search.specs.declared.verdict.Verdict.{Verdict}
-use Rattle.search.specs.declared.refusal.Refusal.{Refusal}
-use Rattle.search.specs.Runs.{HasRoomFor, Run, Stands, TheLaw, EveryRunIsLawful, LeavesEveryRun, WhatPlanWritesIsAShortestPlan, verdict_of}
+use Rattle.search.specs.Runs.{HasRoomFor, Run, Stands, TheLaw, EveryRunIsLawful, WhatPlanWritesIsAShortestPlan}
 use Rattle.search.specs.Runs.Run.{begins, opens, opens_not, advances, lifts, asks, plans}
 use Rattle.search.proofs.Invariant.{AllOpenEnded, Invariant}
 use Rattle.search.proofs.Stacking as Stacking
@@ -139,18 +138,7 @@ plan_fits S P m h n (live l) = λ acts e. (l.keeps.plan acts e).1
 pub every_plan_fits : (S : Machine) (P : Pairs) (m : Meaning) (h : ℕ → ℕ → Bool) (n : ℕ) → Run S P m h n → HasRoomFor S.stage S.bound
 every_plan_fits S P m h n r = plan_fits S P m h n (good r)
 
-pub taken : (xs ys : List ℕ) → take (length xs) (xs ++ ys) ≡ xs
-taken [] ys = refl
-taken (x ∷ xs) ys = ap (λ (zs : List ℕ). x ∷ zs) (taken xs ys)
-
 pub what_plan_writes : WhatPlanWritesIsAShortestPlan
 what_plan_writes S P m h n r b b' k w =
-    let same : take k b' ≡ w.plan = rw (w.written, w.long) (taken w.plan (drop (length w.plan) b)) in
+    let same : take k b' ≡ w.plan = rw (w.written, w.long) (take-append_seam w.plan (drop (length w.plan) b)) in
     subst (λ (x : List ℕ). Shortest m x) (sym same) ((every_run_is_lawful S P m h n r).shortest w.plan w.stands)
-
--- the two calls that only ask are links of a run too
-pub verdict_asked : (S : Machine) (v : Verdict) → v ≡ verdict_of S.stage S.bound → LeavesEveryRun S S
-verdict_asked S v e P m h n run = asks run v e
-
-pub plan_asked : (S : Machine) (b b' : List ℕ) (r : Result ℕ Refusal) → Planning S b b' r → LeavesEveryRun S S
-plan_asked S b b' r does P m h n run = plans run b b' r does

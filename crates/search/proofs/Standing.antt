@@ -1,22 +1,20 @@
--- From the law of a run to the law of what stands: the verdict that is told, and the plan that 30 bytes take.
-use Rattle.std.proofs.Common.{◌≡◌, ℕ, ◌≤◌, Bool, true, false, cond, ltb, List, length, take, drop, Some, None, Ok, Err, Result, sym, refl, ap, ◌∙◌, subst, arith}
+-- From the law of a run to the law of what stands: the verdict that is told, and the plan that stands.
+use Rattle.std.proofs.Common.{◌≡◌, ℕ, ◌≤◌, Bool, true, false, cond, ltb, List, length, Some, None, sym, refl, ap, ◌∙◌, subst, arith}
 use Rattle.std.proofs.lemmas.Bool.{ltb-true}
 use Rattle.tasks.specs.Meaning.{Meaning}
 use Rattle.tasks.specs.States.{Shortest, Solvable}
 use Rattle.filter.proofs.Values.{never}
-use Rattle.search.specs.declared.call.Call.TheVariants as call
 use Rattle.search.specs.declared.refusal.Refusal.{Refusal}
 use Rattle.search.specs.declared.verdict.Verdict.{Verdict}
 use Rattle.search.specs.declared.verdict.Verdict.TheVariants as verdict
-use Rattle.search.specs.Calls.{Planning, refusal}
 use Rattle.search.specs.Ceiling.{ceiling}
 use Rattle.search.specs.Machines.{Machine, Stage}
 use Rattle.search.specs.Machines.Stage.{blank, unfinished, found, none}
 use Rattle.search.specs.Played.{StandsLawfully, Tally}
+use Rattle.search.specs.Plays.{plan_standing}
 use Rattle.search.specs.Runs.{HasRoomFor, TheLaw, verdict_of}
 use Rattle.search.proofs.Holding.{not_blank}
 use Rattle.search.proofs.Playing.{Fits, begun_or}
-use Rattle.search.proofs.Running.{taken}
 
 -- where the first number is not above the second, the test of it refuses nothing
 pub not_refused : (j n : ℕ) (e e' : Refusal) → n ≤ j → cond (ltb j n) (Some e) None ≡ Some e' → ⊥
@@ -26,17 +24,11 @@ not_refused j n e e' le r = go (ltb j n) refl r
     go true t r = let lt = ltb-true j n t in omega (arith, lt, le)
     go false t r = never cc
 
-abbrev plan_in : Stage → List ℕ → List ℕ
-plan_in blank p = p
-plan_in unfinished p = p
-plan_in (found plan) p = plan
-plan_in none p = p
-
-abbrev told : Verdict → ℕ
-told verdict.Blank = 0
-told verdict.Unfinished = 0
-told (verdict.Found n) = n
-told (verdict.None k) = k
+abbrev number : Verdict → ℕ
+number verdict.Blank = 0
+number verdict.Unfinished = 0
+number (verdict.Found n) = n
+number (verdict.None k) = k
 
 pub blank_told : (s : Stage) (K : ℕ) → verdict_of s K ≡ verdict.Blank → s ≡ blank
 blank_told blank K e = refl
@@ -44,16 +36,7 @@ blank_told unfinished K e = never cc
 blank_told (found p) K e = never cc
 blank_told none K e = never cc
 
--- a plan that stands is what is written into a buffer long enough
-pub written : (S : Machine) (b b' : List ℕ) (r : Result ℕ Refusal) (p : List ℕ) → Planning S b b' r → S.stage ≡ found p → length p ≤ length b → take (length p) b' ≡ p
-written S b b' (Ok n) p w e l =
-    let same : w.plan ≡ p = ap (λ (s : Stage). plan_in s p) (sym w.stands ∙ e) in
-    subst (λ (q : List ℕ). take (length q) b' ≡ q) same
-    (ap (take (length w.plan)) w.written ∙ taken w.plan (drop n b))
-written S b b' (Err why) p w e l =
-    absurd (not_refused (length b) (length p) _ why l (subst (λ (s : Stage). refusal s S.bound (call.Plan (length b)) ≡ Some why) e w.0))
-
-module _ (m : Meaning) (t : Tally) (S : Machine) (fits : Fits t S) (law : TheLaw S.stage S.bound m t.amount) (within : HasRoomFor S.stage S.bound) (b b' : List ℕ) (r : Result ℕ Refusal) (planned : Planning S b b' r) (room : S.bound ≤ length b) where
+module _ (m : Meaning) (t : Tally) (S : Machine) (fits : Fits t S) (law : TheLaw S.stage S.bound m t.amount) (within : HasRoomFor S.stage S.bound) where
   bounded : (S.stage ≡ blank → ⊥) → S.bound ≡ t.bound
   bounded n = fits.bound (begun_or t S fits n).0
 
@@ -75,18 +58,13 @@ module _ (m : Meaning) (t : Tally) (S : Machine) (fits : Fits t S) (law : TheLaw
       stands (found p) n e = (p, refl)
       stands none n e = never cc
 
-  finds : (s : Stage) → S.stage ≡ s → (n : ℕ) → verdict_of s S.bound ≡ verdict.Found n → Shortest m (take n b') × (length (take n b') ≡ n) × (n ≤ t.bound)
+  finds : (s : Stage) → S.stage ≡ s → (n : ℕ) → verdict_of s S.bound ≡ verdict.Found n → Shortest m (plan_standing s) × (length (plan_standing s) ≡ n) × (n ≤ t.bound)
   finds blank q n e = never cc
   finds unfinished q n e = never cc
   finds (found p) q n e =
-      let long : length p ≡ n = ap told e in
+      let long : length p ≡ n = ap number e in
       let most = within p q in
-      let is = written S b b' r p planned q (omega (arith, most, room)) in
-      let same : p ≡ take n b' = sym is ∙ ap (λ (j : ℕ). take j b') long in (
-        subst (λ (x : List ℕ). Shortest m x) same (law.shortest p q),
-        sym (ap length same) ∙ long,
-        omega (arith, most, long, bounded (λ z. let y = q in never cc)),
-      )
+      (law.shortest p q, long, omega (arith, most, long, bounded (λ z. let y = q in never cc)))
   finds none q n e = never cc
 
   denies : (s : Stage) → S.stage ≡ s → (k : ℕ) → verdict_of s S.bound ≡ verdict.None k → (k ≡ t.bound) × (Solvable m t.bound → ⊥)
@@ -95,9 +73,9 @@ module _ (m : Meaning) (t : Tally) (S : Machine) (fits : Fits t S) (law : TheLaw
   denies (found p) q k e = never cc
   denies none q k e =
       let same = bounded (λ z. let y = q in never cc) in
-      (sym (ap told e) ∙ same, λ s. law.nothing q (subst (λ (j : ℕ). Solvable m j) (sym same) s))
+      (sym (ap number e) ∙ same, λ s. law.nothing q (subst (λ (j : ℕ). Solvable m j) (sym same) s))
 
-  pub stands_lawfully : StandsLawfully m t (verdict_of S.stage S.bound) b'
+  pub stands_lawfully : StandsLawfully m t (verdict_of S.stage S.bound) (plan_standing S.stage)
   stands_lawfully = record {
     shortest = finds S.stage refl;
     nothing = denies S.stage refl;

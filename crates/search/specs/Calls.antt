@@ -3,14 +3,14 @@
 use Rattle.std.specs.Prelude.{◌≡◌, ℕ, ◌+◌, ◌≤◌, Bool, cond, ◌||◌, List, [], ◌∷◌, ◌++◌, length, drop, Some, None, Ok, Err, Option, Result, nat_le, nat_lt}
 use Rattle.tasks.specs.Meaning.{Meaning}
 use Rattle.search.specs.declared.call.Call.{Call}
-use Rattle.search.specs.declared.call.Call.TheVariants.{Open, Advance, Lift, Plan}
+use Rattle.search.specs.declared.call.Call.TheVariants.{Open, Advance, Lift, Verdict, Plan}
 use Rattle.search.specs.declared.refusal.Refusal.{Refusal}
 use Rattle.search.specs.declared.refusal.Refusal.TheVariants.{Blank, Bound, Amount, NotNone, NotFound, Buffer}
 use Rattle.search.specs.Machines.{Stage, Machine, Made}
 use Rattle.search.specs.Machines.Stage.{blank, unfinished, found, none}
 use Rattle.search.specs.Steps.{Step, put_up}
 
--- The table of refusals, by the verdict that stands, the old bound and the call.
+-- The table of refusals, by the verdict that stands, the old bound and the call. Asking for the verdict is never refused.
 abbrev pub refusal : Stage → ℕ → Call → Option Refusal
 refusal blank old (Open k) = cond (nat_lt 30 k) (Some Bound) None
 refusal unfinished old (Open k) = cond (nat_lt 30 k) (Some Bound) None
@@ -24,6 +24,10 @@ refusal blank old (Lift k) = Some Blank
 refusal unfinished old (Lift k) = Some NotNone
 refusal (found acts) old (Lift k) = Some NotNone
 refusal none old (Lift k) = cond (nat_lt 30 k || nat_le k old) (Some Bound) None
+refusal blank old Verdict = None
+refusal unfinished old Verdict = None
+refusal (found acts) old Verdict = None
+refusal none old Verdict = None
 refusal blank old (Plan n) = Some Blank
 refusal unfinished old (Plan n) = Some NotFound
 refusal (found acts) old (Plan n) = cond (nat_lt n (length acts)) (Some Buffer) None

@@ -8,7 +8,7 @@ use Rattle.search.specs.Machines.Entry.{part, pair}
 
 -- What a stored entry stands for.
 abbrev pub entry_of : stored.Entry → Entry
-entry_of (Open p) = part (structure p.part) p.from
+entry_of (Open p) = part (structure p.part.part) p.from
 entry_of (Pending p) = pair p.state p.left
 
 -- The entries, the newest first.

@@ -12,14 +12,13 @@ use Rattle.search.specs.Machines.{Entry, Made}
 use Rattle.search.specs.Machines.Entry.{part, pair}
 use Rattle.search.specs.Machines.Stage.{unfinished, found}
 use Rattle.search.specs.Steps.{best_below, earlier, first_half, half, next, settle}
-use Rattle.search.specs.Parts.{actions_of}
 
 -- What a fate makes of the search whose newest part it is.
 abbrev pub effect : Meaning → Fate → ℕ → ℕ → Option ℕ → List Entry → Made
 effect m Dropped bound k from rest = settle m bound k [] rest
-effect m (Found p) bound k from rest = record { machine = record { stage = found (actions_of p); bound = bound; round = k; entries = rest }; keeps = [] }
+effect m (Found p) bound k from rest = record { machine = record { stage = found p.items; bound = bound; round = k; entries = rest }; keeps = [] }
 effect m (Split h) bound k from rest = record {
-  machine = record { stage = unfinished; bound = bound; round = k; entries = part (structure h.first) (Some h.step) ∷ part (structure h.second) (Some h.step) ∷ cond (earlier from h.step) (pair h.state (k - h.step) ∷ rest) rest };
+  machine = record { stage = unfinished; bound = bound; round = k; entries = part (structure h.first.part) (Some h.step) ∷ part (structure h.second.part) (Some h.step) ∷ cond (earlier from h.step) (pair h.state (k - h.step) ∷ rest) rest };
   keeps = [];
 }
 
@@ -45,5 +44,5 @@ pub record Decided (m : Meaning) (recall hopeless : ℕ → ℕ → Bool) (p : S
 pub record Halved (m : Meaning) (q : Structure) (i : ℕ) (h : Halves) : Type 0 where
   pub step : h.step ≡ i
   pub state : h.state ≡ state_of m q i
-  pub first : structure h.first ≡ half m q i (first_half m q i (best_below m q i m.facts))
-  pub second : structure h.second ≡ half m q i (λ a. not (first_half m q i (best_below m q i m.facts) a))
+  pub first : structure h.first.part ≡ half m q i (first_half m q i (best_below m q i m.facts))
+  pub second : structure h.second.part ≡ half m q i (λ a. not (first_half m q i (best_below m q i m.facts) a))

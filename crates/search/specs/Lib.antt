@@ -8,9 +8,12 @@ pub mod Played
 pub mod Plays
 pub mod Depths
 pub mod Parts
+pub mod LeftParts
+pub mod Choices
 pub mod Entries
 pub mod Fates
 pub mod Stored
+pub mod Advisers
 pub mod Applied
 pub mod Stepped
 pub mod Skips

@@ -1,5 +1,8 @@
--- A search as a machine, and what one step of it promises.
-use Rattle.std.specs.Prelude.{◌≡◌, ℕ, ◌≤◌, Bool, vec_items}
+-- A search as a machine, and what its steps promise, by the ghost members of a memory and an estimator.
+use Rattle.std.specs.Prelude.{◌≡◌, ℕ, ◌≤◌}
+use Rattle.estimators.specs.declared.estimator.Estimator as estimator
+use Rattle.memories.specs.Pairs.{recalls}
+use Rattle.memories.specs.declared.memory.Memory as memory
 use Rattle.tasks.specs.Meaning.{Meaning}
 use Rattle.search.specs.declared.record.Search.{Search}
 use Rattle.search.specs.Machines.{Machine, Made}
@@ -11,17 +14,18 @@ use Rattle.search.specs.Stored.{stage_of}
 
 -- The machine that a search stands for.
 abbrev pub machine_of : Search → Machine
-machine_of s = record { stage = stage_of s.stage; bound = s.bound; round = s.round; entries = entries_of (vec_items s.stack) }
+machine_of s = record { stage = stage_of s.stage; bound = s.rounds.bound; round = s.rounds.round; entries = entries_of s.stack }
 
--- One step was made, and its pairs were kept.
-pub record Stepped (X : Type 0) (recall : X → ℕ → ℕ → Bool) (keeps : X → ℕ → ℕ → X → Type 0) (m : Meaning) (hopeless : ℕ → ℕ → Bool) (S : Machine) (x : X) (S' : Machine) (x' : X) : Type 0 where
-  pub made : Made
-  pub step : Step m (recall x) hopeless S made
-  pub machine : S' ≡ made.machine
-  pub kept : Keeps X keeps made.keeps x x'
+module _ {X Y : Type 0} (M : memory.Ghosts X) (E : estimator.Ghosts Y) (m : Meaning) (e : Y) where
+  -- One step was made, and its pairs were kept.
+  pub record Stepped (S : Machine) (x : X) (S' : Machine) (x' : X) : Type 0 where
+    pub made : Made
+    pub step : Step m (recalls (M.has x)) (E.hopeless e m) S made
+    pub machine : S' ≡ made.machine
+    pub kept : Keeps X M.keeps made.keeps x x'
 
--- So many steps were made, fewer than asked only if a verdict fell.
-pub record Gone (X : Type 0) (recall : X → ℕ → ℕ → Bool) (keeps : X → ℕ → ℕ → X → Type 0) (m : Meaning) (hopeless : ℕ → ℕ → Bool) (amount : ℕ) (S : Machine) (x : X) (S' : Machine) (x' : X) (made : ℕ) : Type 0 where
-  pub steps : Steps X recall keeps m hopeless made S x S' x'
-  pub few : made ≤ amount
-  pub all : S'.stage ≡ unfinished → made ≡ amount
+  -- So many steps were made, fewer than asked only if a verdict fell.
+  pub record Gone (amount : ℕ) (S : Machine) (x : X) (S' : Machine) (x' : X) (made : ℕ) : Type 0 where
+    pub steps : Steps X (λ y. recalls (M.has y)) M.keeps m (E.hopeless e m) made S x S' x'
+    pub few : made ≤ amount
+    pub all : S'.stage ≡ unfinished → made ≡ amount

@@ -53,6 +53,10 @@ unfoldable pub some_below : ℕ → (ℕ → Bool) → Bool
 some_below zero g = false
 some_below (suc n) g = let lower = some_below n g in g n || lower
 
+-- How far apart two numbers are; none where either is 0.
+abbrev pub apart : ℕ → ℕ → Option ℕ
+apart d r = cond (nat_lt 0 d && nat_lt 0 r) (Some ((d - r) + (r - d))) None
+
 module _ (m : Meaning) (q : Structure) where
   -- Two actions or more are left at step i.
   unfoldable pub wide : ℕ → Bool
@@ -130,6 +134,10 @@ module _ (m : Meaning) (recall hopeless : ℕ → ℕ → Bool) (bound k : ℕ) 
   unfoldable pub next : Bool → Made
   next false = settle m bound k [] rest
   next true = let i = lowest k (wide m q) in looked (i == k) i
+
+-- What is told of the levels of q, whatever the bound, the parent and the entries below.
+abbrev pub told_of : Meaning → (ℕ → ℕ → Bool) → (ℕ → ℕ → Bool) → Structure → ℕ → Bool
+told_of m recall hopeless q = told m recall hopeless 0 q.round None q []
 
 -- One step on an unfinished machine: the newest part is filtered, and `made` is what becomes of it.
 pub record Step (m : Meaning) (recall hopeless : ℕ → ℕ → Bool) (S : Machine) (made : Made) : Type 0 where

@@ -1,8 +1,7 @@
 //! What a call answers.
-use crate::refusal::Refusal;
 use crate::verdict::Verdict;
 
-/// What one of the five calls answered.
+/// What one of the five calls answered where it was not refused.
 #[derive(Clone, Copy, PartialEq, Eq, Debug)]
 pub enum Answer {
     /// The opening or the lift was done.
@@ -13,6 +12,4 @@ pub enum Answer {
     Stands(Verdict),
     /// So many bytes of the plan were written.
     Wrote(usize),
-    /// The call was refused, and changed nothing.
-    Refused(Refusal),
 }

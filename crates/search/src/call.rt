@@ -1,6 +1,6 @@
-//! The calls that can be refused.
+//! The five calls as values.
 
-/// A call on a search that can be refused, with the number that it is passed.
+/// One of the five calls on a search, with the number that it is passed.
 #[derive(Clone, Copy, PartialEq, Eq, Debug)]
 pub enum Call {
     /// open a search, with its bound
@@ -9,6 +9,8 @@ pub enum Call {
     Advance(u32),
     /// go on with a larger bound
     Lift(u8),
+    /// ask for the verdict, which is never refused
+    Verdict,
     /// write the plan into a buffer of this length
     Plan(usize),
 }

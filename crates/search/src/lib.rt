@@ -1,9 +1,9 @@
 //! The search for a shortest plan.
 #![tactic(auto)]
 
+mod advisers;
 pub mod answer;
 mod apply;
-mod ask;
 pub mod call;
 mod choose;
 pub mod entry;
@@ -14,8 +14,8 @@ pub mod plan;
 pub mod play;
 pub mod record;
 pub mod refusal;
-pub mod request;
-mod settle;
+mod rounds;
+mod stack;
 pub mod stage;
 pub mod theorems;
 pub mod verdict;

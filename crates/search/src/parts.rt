@@ -1,77 +1,56 @@
-//! What the search makes of parts.
-ghost use Rattle.std.specs.Prelude.{◌≡◌, ℕ, ◌<◌, ◌≤◌, Bool, true, ◌&&◌};
-ghost use Rattle.sets.specs.Counts.{Lowest};
-ghost use Rattle.sets.specs.Sets.{among};
-ghost use Rattle.filter.specs.Parts.{step_at, structure};
-ghost use Rattle.filter.specs.Plans.{state_of};
-ghost use Rattle.tasks.specs.Meaning.{Meaning};
-ghost use Rattle.search.specs.Parts.{OfTask, actions_of};
+//! What the search reads in a part that the filter has left.
+ghost use Rattle.std.specs.Prelude.{◌≡◌, ◌<◌, ◌≤◌, MatchOption};
 ghost use Rattle.filter.specs.Filtering.{Consistent};
-ghost use Rattle.search.specs.Steps.{half, lowest, plan_from, wide};
+ghost use Rattle.filter.specs.Parts.{structure};
+ghost use Rattle.filter.specs.Plans.{state_of};
+ghost use Rattle.tasks.specs.Masked.{masked};
+ghost use Rattle.search.specs.Parts.{OfTask};
+ghost use Rattle.search.specs.Steps.{lowest, plan_from, wide};
 
 use crate::plan::Plan;
-use filter::part::Part;
-use sets::actions::ActionSet;
-use sets::literals::Literals;
+use filter::part::BoundedPart;
+use tasks::Snapshot;
 
-// The first step with two actions or more, or the round where every step has at most one.
-pub fn first_choice(part: &Part) -> u8
-    requires { part.now.round ≤ 30 }
-    ensures { (m : Meaning) → OfTask m part.now → result ≡ lowest part.now.round (wide m (structure part.now)) }
-{
-    for i in 0..part.round {
-        if part.steps[i as usize].has_many() {
-            return i;
+/// A part that the filter has left, with the task that it is a part of.
+#[derive(Clone, Copy)]
+pub struct LeftPart<'a> {
+    pub snapshot: &'a Snapshot,
+    pub part: &'a BoundedPart,
+    ghost own: { OfTask (masked snapshot.now) part.now.part },
+    ghost consistent: { Consistent (masked snapshot.now) (structure part.now.part) },
+}
+
+impl LeftPart<'_> {
+    ghost use Rattle.search.specs.LeftParts.{left_of, task_of};
+
+    // The first step with two actions or more; none where every step of the round has at most one.
+    pub fn first_choice(self) -> Option<u8>
+        ensures { MatchOption result
+            (lowest self.entry.part.now.part.round (wide (task_of self.entry) (left_of self.entry)) ≡ self.entry.part.now.part.round)
+            (λ step. (step < self.entry.part.now.part.round) × (step ≡ lowest self.entry.part.now.part.round (wide (task_of self.entry) (left_of self.entry)))) }
+    {
+        let steps = &self.part.part.steps[..self.part.part.round as usize];
+        let step = steps.iter().position(|step| step.has_many())?;
+        Some(step as u8)
+    }
+
+    // The state of a level, where each fact has one value.
+    pub fn state_at(self, level: u8) -> u64
+        requires { level ≤ self.part.now.part.round }
+        ensures { result ≡ state_of (task_of self.entry) (left_of self.entry) level }
+    {
+        self.part.part.levels[level as usize].trues.bits
+    }
+
+    // The plan of a part with one action at each step.
+    pub fn plan(self) -> Plan
+        ensures { result.items ≡ plan_from (task_of self.entry) (left_of self.entry) self.entry.part.now.part.round 0 }
+    {
+        let steps = &self.part.part.steps[..self.part.part.round as usize];
+        let mut plan = Plan::new();
+        for step in steps {
+            plan.push(step.lowest().unwrap_or(0));
         }
-    }
-    part.round
-}
-
-// The state of a level, where each fact has one value.
-pub fn state_at(part: &Part, level: u8) -> u64
-    requires level { level ≤ part.now.round }
-    requires round { part.now.round ≤ 30 }
-    ensures { (m : Meaning) → OfTask m part.now → result ≡ state_of m (structure part.now) level }
-{
-    trues_of(part.levels[level as usize])
-}
-
-// The facts that are true in a set, as a state.
-fn trues_of(literals: Literals) -> u64
-    ensures { result ≡ literals.trues }
-{
-    literals.trues
-}
-
-// The part with only the given actions at a step.
-pub fn half_of(part: &Part, step: u8, actions: ActionSet) -> Part
-    requires step { step < part.now.round }
-    requires round { part.now.round ≤ 30 }
-    ensures { (m : Meaning) (d : ℕ → Bool) → ((a : ℕ) → among actions a ≡ (among (step_at part.now step) a && d a)) → structure result ≡ half m (structure part.now) step d }
-{
-    let mut made = *part;
-    made.steps[step as usize] = actions;
-    made
-}
-
-// The plan of a part with one action at each step.
-pub fn plan_of(part: &Part) -> Plan
-    requires { part.now.round ≤ 30 }
-    ensures { (m : Meaning) → OfTask m part.now → Consistent m (structure part.now) → actions_of result ≡ plan_from m (structure part.now) part.now.round 0 }
-{
-    let mut actions = [0u8; 30];
-    for i in 0..part.round as usize {
-        actions[i] = lowest_of(part.steps[i]);
-    }
-    Plan::new(part.round, actions)
-}
-
-// The lowest action of a set that has one.
-fn lowest_of(set: ActionSet) -> u8
-    ensures { (a : ℕ) → among set a ≡ true → Lowest (among set) result }
-{
-    match set.lowest() {
-        Some(a) => a,
-        None => 0,
+        plan
     }
 }

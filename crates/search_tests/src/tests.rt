@@ -6,7 +6,6 @@ use search::call::Call;
 use search::play::{Unplayed, play};
 use search::record::Search;
 use search::refusal::Refusal;
-use search::request::Request;
 use search::verdict::Verdict;
 use std::test::Fail;
 use tasks::TableTask;
@@ -84,14 +83,14 @@ fn a_list_of_calls_is_played(rt: HostRuntime) -> Result<(), Fail> {
     let mut memory = ListMemory::new();
     let mut search = Search::new(rt.alloc())?;
     let calls = [
-        Request::Make(Call::Plan(4)),
-        Request::Make(Call::Open(3)),
-        Request::Make(Call::Advance(6)),
-        Request::Verdict,
-        Request::Make(Call::Lift(4)),
-        Request::Make(Call::Advance(100)),
-        Request::Make(Call::Plan(3)),
-        Request::Make(Call::Plan(4)),
+        Call::Plan(4),
+        Call::Open(3),
+        Call::Advance(6),
+        Call::Verdict,
+        Call::Lift(4),
+        Call::Advance(100),
+        Call::Plan(3),
+        Call::Plan(4),
     ];
     let played = play(
         rt.alloc(),
@@ -100,23 +99,17 @@ fn a_list_of_calls_is_played(rt: HostRuntime) -> Result<(), Fail> {
         &mut memory,
         &GoalCount,
         &calls,
-    );
-    let Ok(played) = played else {
-        assert!(rt; false);
-        return Ok(());
-    };
-    assert_eq!(rt; played.answers[0], Answer::Refused(Refusal::Blank));
-    assert_eq!(rt; played.answers[1], Answer::Done);
-    assert_eq!(rt; played.answers[2], Answer::Made(6));
-    assert_eq!(rt; played.answers[3], Answer::Stands(Verdict::None(3)));
-    assert_eq!(rt; played.answers[4], Answer::Done);
-    assert_eq!(rt; played.answers[5], Answer::Made(6));
-    assert_eq!(rt; played.answers[6], Answer::Refused(Refusal::Buffer));
-    assert_eq!(rt; played.answers[7], Answer::Wrote(4));
+    )?;
+    assert_eq!(rt; played.answers[0], Err(Refusal::Blank));
+    assert_eq!(rt; played.answers[1], Ok(Answer::Done));
+    assert_eq!(rt; played.answers[2], Ok(Answer::Made(6)));
+    assert_eq!(rt; played.answers[3], Ok(Answer::Stands(Verdict::None(3))));
+    assert_eq!(rt; played.answers[4], Ok(Answer::Done));
+    assert_eq!(rt; played.answers[5], Ok(Answer::Made(6)));
+    assert_eq!(rt; played.answers[6], Err(Refusal::Buffer));
+    assert_eq!(rt; played.answers[7], Ok(Answer::Wrote(4)));
     assert_eq!(rt; played.verdict, Verdict::Found(4));
-    assert!(rt;
-        played.plan[0] == 0 && played.plan[1] == 1 && played.plan[2] == 2 && played.plan[3] == 3
-    );
+    assert!(rt; played.plan.as_slice() == [0, 1, 2, 3].as_slice());
     Ok(())
 }
 
@@ -126,18 +119,16 @@ fn only_a_blank_search_is_played(rt: HostRuntime) -> Result<(), Fail> {
     let mut memory = ListMemory::new();
     let mut search = Search::new(rt.alloc())?;
     assert_eq!(rt; search.open(&task, &mut memory, 4), Ok(()));
-    let calls = [Request::Make(Call::Open(3))];
-    match play(
+    let calls = [Call::Open(3)];
+    let played = play(
         rt.alloc(),
         &mut search,
         &task,
         &mut memory,
         &GoalCount,
         &calls,
-    ) {
-        Ok(_) => assert!(rt; false),
-        Err(why) => assert_eq!(rt; why, Unplayed::NotBlank),
-    }
+    );
+    assert_eq!(rt; played.err(), Some(Unplayed::NotBlank));
     assert_eq!(rt; search.advance(&task, &mut memory, &GoalCount, 100), Ok(12));
     Ok(())
 }

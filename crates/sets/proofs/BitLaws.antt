@@ -3,8 +3,7 @@ use Rattle.std.proofs.Common.{◌≡◌, ℕ, zero, suc, ◌-◌, ◌*◌, ◌/�
 use native.Mathlib.Nat.{zero-div, div-div-eq-div-mul, div-eq_of_lt}
 use lib.Dec.{eqb-suc-suc, eqb-suc-zero}
 use lib.Count.{count_trailing_zeros}
-use lib.Bits.{bit_and, bit_or, and_step, or_step, and_shr, or_shr, and_mask, or_add_and, and_le_l, and_le_r}
-use Rattle.std.proofs.lemmas.Nat.{one_shl}
+use lib.Bits.{bit_and, bit_or, and_step, or_step, and_shr, or_shr, and_mask, and_le_l, and_le_r}
 use Rattle.std.proofs.lemmas.Bool.{cases_lt, cases_eq, both_ways}
 use Rattle.std.proofs.lemmas.Bool.Decides.{nat_tests}
 use Rattle.sets.specs.Bits.{bit}
@@ -165,19 +164,6 @@ bit_without w x y i h k =
       | inl l ↦ bit_of_and x (2 ^ w - 1 - y) i ∙ ap (λ (b : Bool). bit x i && b) (bit_not w y i k l)
       | inr l ↦ bit_of_and x (2 ^ w - 1 - y) i ∙ rw (bit_high w x i h l)
     ]
-
--- `x | 1 << k` at w bits
-pub bit_with : (w x k i : ℕ) → k < w → bit (bit_or x ((1 * 2 ^ k) % 2 ^ w)) i ≡ (bit x i || eqb i k)
-bit_with w x k i h = rw (one_shl k w h) (bit_of_or x (2 ^ k) i ∙ ap (λ (b : Bool). bit x i || b) (bit_one k i))
-
-pub or_zero_left : (a b : ℕ) → bit_or a b ≡ 0 → a ≡ 0
-or_zero_left a b e = omega (arith, or_add_and a b, and_le_r a b)
-
-pub or_zero_right : (a b : ℕ) → bit_or a b ≡ 0 → b ≡ 0
-or_zero_right a b e = omega (arith, or_add_and a b, and_le_l a b)
-
-pub or_of_zeros : (a b : ℕ) → a ≡ 0 → b ≡ 0 → bit_or a b ≡ 0
-or_of_zeros a b p q = omega (arith, or_add_and a b, and_le_l a b)
 
 -- a set of fewer bits is no larger a number
 pub sub_le : (w a b : ℕ) → a < 2 ^ w → b < 2 ^ w → ((i : ℕ) → bit a i ≡ true → bit b i ≡ true) → a ≤ b

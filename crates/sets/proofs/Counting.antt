@@ -1,9 +1,9 @@
 -- How many members a set of numbers has: what `count_ones` gives, what one member less makes of it, and when it is 0.
-use Rattle.std.proofs.Common.{◌≡◌, ℕ, zero, suc, ◌+◌, ◌*◌, ◌/◌, ◌%◌, ◌^◌, ◌<◌, Bool, true, false, cond, not, ◌&&◌, eqb, sym, refl, ap₂, inl, inr, pow-suc, arith}
+use Rattle.std.proofs.Common.{◌≡◌, ℕ, zero, suc, ◌+◌, ◌*◌, ◌/◌, ◌%◌, ◌^◌, ◌<◌, ◌≤◌, Bool, true, false, cond, not, ◌&&◌, eqb, sym, refl, ap₂, inl, inr, pow-suc, arith}
 use lib.Count.{ones, ones_step}
 use Rattle.std.proofs.lemmas.Bool.{cases_eq, cases_Bool, eq-eqb, ne_eqb}
 use Rattle.sets.specs.Bits.{bit}
-use Rattle.sets.specs.Counts.{count}
+use Rattle.sets.specs.Counts.{Lowest, count}
 use Rattle.sets.proofs.BitLaws.{bit_low, bit_suc, digit}
 
 pub count_ext : (g h : ℕ → Bool) (n : ℕ) → ((i : ℕ) → i < n → g i ≡ h i) → count g n ≡ count h n
@@ -69,3 +69,7 @@ count_drop g (suc n) k l e =
   where
     other : (i : ℕ) → (i ≡ k → ⊥) → (g i && not (eqb i k)) ≡ g i
     other i d = elim (cases_Bool (g i)) [ inl b ↦ rw (b, ne_eqb i k d) | inr b ↦ rw b ]
+
+-- nothing below the lowest member is in the set
+pub not_lower : (g : ℕ → Bool) (l i : ℕ) → Lowest g l → i < l → g i ≡ false
+not_lower g l i low m = elim (cases_Bool (g i)) [ inl e ↦ absurd (let k : l ≤ i = low.least i e in omega arith) | inr e ↦ e ]

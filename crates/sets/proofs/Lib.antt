@@ -2,4 +2,4 @@ pub mod BitLaws
 pub mod Counting
 pub mod Words
 pub mod Membership
-pub mod Sayings
+pub mod Listing

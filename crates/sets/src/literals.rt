@@ -1,17 +1,19 @@
 //! Sets of literals.
+#![tactic(auto, unfolding(crate::specs::Sets::has))]
+
 ghost use Rattle.std.specs.Prelude.{◌≡◌, ℕ, min, Bool, true, false, not, ◌&&◌, ◌||◌, Decides, ◌==◌, nat_lt};
 ghost use Rattle.sets.specs.Bits.{bit};
 ghost use Rattle.sets.specs.Signs.{says, is};
 ghost use Rattle.sets.specs.Sets.{has, holds};
 
-use crate::facts::FactSet;
+use crate::bit_sets::FactSet;
 
-/// A set of literals over facts that are numbered below 64: bit f of `trues` is the literal that fact f is true, bit f of
-/// `falses` that it is false.
+/// A set of literals over facts that are numbered below 64: fact f is in `trues` where the literal that it is true is in the
+/// set, and in `falses` where the literal that it is false is.
 #[derive(Clone, Copy, PartialEq, Eq, Debug)]
 pub struct Literals {
-    pub trues: u64,
-    pub falses: u64,
+    pub trues: FactSet,
+    pub falses: FactSet,
 }
 
 /// Making sets.
@@ -21,31 +23,31 @@ impl Literals {
         ensures value { (f : ℕ) (v : Bool) → has result f v ≡ false }
     {
         Literals {
-            trues: 0,
-            falses: 0,
+            trues: FactSet::none(),
+            falses: FactSet::none(),
         }
     }
 
     /// Both values of each fact below `facts`.
-    pub fn all(facts: u8) -> Literals
+    pub fn all(facts: usize) -> Literals
         ensures value { (f : ℕ) (v : Bool) → has result f v ≡ nat_lt f (min facts 64) }
     {
         let set = FactSet::below(facts);
         Literals {
-            trues: set.bits,
-            falses: set.bits,
+            trues: set,
+            falses: set,
         }
     }
 
     /// The values that the facts below `facts` have in a state.
-    pub fn of_state(state: u64, facts: u8) -> Literals
+    pub fn of_state(state: u64, facts: usize) -> Literals
         ensures value { (f : ℕ) (v : Bool) → has result f v ≡ (nat_lt f (min facts 64) && is v (bit state f)) }
     {
         let set = FactSet::below(facts);
         let trues = FactSet { bits: state };
         Literals {
-            trues: set.common(trues).bits,
-            falses: set.without(trues).bits,
+            trues: set.common(trues),
+            falses: set.without(trues),
         }
     }
 
@@ -56,13 +58,13 @@ impl Literals {
     {
         if value > 0 {
             Literals {
-                trues: FactSet { bits: self.trues }.with(f).bits,
+                trues: self.trues.with(f),
                 falses: self.falses,
             }
         } else if value < 0 {
             Literals {
                 trues: self.trues,
-                falses: FactSet { bits: self.falses }.with(f).bits,
+                falses: self.falses.with(f),
             }
         } else {
             self
@@ -77,8 +79,8 @@ impl Literals {
         ensures value { (f : ℕ) (v : Bool) → has result f v ≡ (has self f v || has other f v) }
     {
         Literals {
-            trues: self.trues | other.trues,
-            falses: self.falses | other.falses,
+            trues: self.trues.union(other.trues),
+            falses: self.falses.union(other.falses),
         }
     }
 
@@ -87,8 +89,8 @@ impl Literals {
         ensures value { (f : ℕ) (v : Bool) → has result f v ≡ (has self f v && has other f v) }
     {
         Literals {
-            trues: self.trues & other.trues,
-            falses: self.falses & other.falses,
+            trues: self.trues.common(other.trues),
+            falses: self.falses.common(other.falses),
         }
     }
 
@@ -97,8 +99,8 @@ impl Literals {
         ensures value { (f : ℕ) (v : Bool) → has result f v ≡ (has self f v && not (has other f v)) }
     {
         Literals {
-            trues: self.trues & !other.trues,
-            falses: self.falses & !other.falses,
+            trues: self.trues.without(other.trues),
+            falses: self.falses.without(other.falses),
         }
     }
 
@@ -120,9 +122,9 @@ impl Literals {
         ensures value { result ≡ has self f «value» }
     {
         if value {
-            FactSet { bits: self.trues }.contains(f)
+            self.trues.contains(f)
         } else {
-            FactSet { bits: self.falses }.contains(f)
+            self.falses.contains(f)
         }
     }
 
@@ -130,7 +132,7 @@ impl Literals {
     pub fn is_empty(self) -> bool
         ensures value { Decides result ((f : ℕ) (v : Bool) → has self f v ≡ false) }
     {
-        self.trues | self.falses == 0
+        self.trues.is_empty() && self.falses.is_empty()
     }
 
     /// Whether each fact that has a value in `all` has one here.
@@ -144,8 +146,6 @@ impl Literals {
     pub fn undecided(self) -> FactSet
         ensures value { (f : ℕ) → holds result f ≡ (has self f true && has self f false) }
     {
-        FactSet {
-            bits: self.trues & self.falses,
-        }
+        self.trues.common(self.falses)
     }
 }

@@ -1,6 +1,6 @@
 -- The line of an action in a spelled sheet: after line 1 and the lines of the facts comes one line for each action, whose
 -- second word is its name.
-use Rattle.std.proofs.Common.{◌≡◌, ℕ, zero, suc, ◌+◌, ◌<◌, ◌≤◌, true, cond, ◌&&◌, ltb, leb, List, [], ◌∷◌, ◌++◌, length, get_or, drop, IfOk, Some, None, Ok, Err, decimal, Option, Result, sym, refl, ap, ◌∙◌, append_assoc, arith, Bor}
+use Rattle.std.proofs.Common.{◌≡◌, ℕ, zero, suc, ◌+◌, ◌<◌, ◌≤◌, true, cond, ◌&&◌, ltb, leb, List, [], ◌∷◌, ◌++◌, length, get_or, drop, IfOk, Ok, Err, decimal, Result, sym, refl, ap, ◌∙◌, append_assoc, arith, Bor}
 use Rattle.std.specs.List.{flat_map, AllByRecursion}
 use Rattle.std.proofs.ByRecursion.{All-get_or}
 use Rattle.std.proofs.lemmas.List.{get_or-drop}
@@ -11,15 +11,14 @@ use Rattle.sheet.specs.declared.fault.Fault.TheVariants as fault
 use Rattle.sheet.specs.declared.refusal.Refusal.{Refusal}
 use Rattle.sheet.specs.declared.word.Head.{Head}
 use Rattle.sheet.specs.declared.word.Head.TheVariants.{Job, Fact, Act, Bodies, Start, Goal, Needs, Makes}
-use Rattle.sheet.specs.Actions.{Accepted, action_name, checked, named, unnamed, NamesTheAction}
+use Rattle.sheet.specs.Actions.{Accepted, action_name, checked, counts_of, named, unnamed, NamesTheAction}
 use Rattle.sheet.specs.Agree.{Agree}
 use Rattle.sheet.specs.Counting.{Limits}
-use Rattle.sheet.specs.Dues.{then, rest}
+use Rattle.sheet.specs.Dues.{then}
 use Rattle.sheet.specs.Forms.{text}
 use Rattle.sheet.specs.Grammar.{JobSheet, WellFormed, spell, meaning}
 use Rattle.sheet.specs.Lines.{lines}
 use Rattle.sheet.specs.Name.{name, letters}
-use Rattle.sheet.specs.Readers.{Next}
 use Rattle.sheet.specs.Sheet.{Read, sheet}
 use Rattle.sheet.specs.Spell.{unwords, line, literals}
 use Rattle.sheet.specs.Words.{words}
@@ -27,10 +26,6 @@ use Rattle.sheet.proofs.Answered.{agree_ok, agree_err, agree_at_ok, agree_at_err
 use Rattle.sheet.proofs.SheetAccepted.{accepted}
 use Rattle.sheet.proofs.PartsSpelled.{Tight, tight_decimal, tight_name, its_lines, words_unwords}
 use Rattle.sheet.proofs.SheetSpelled.{written}
-
-pub next_rest : (ws : List (List ℕ)) (r : Option (Bor (List ℕ))) (ws' : List (List ℕ)) → Next ws r ws' → ws' ≡ rest ws
-next_rest ws None ws' h = h.1 ∙ sym (ap rest h.0)
-next_rest ws (Some w) ws' h = sym (ap rest h)
 
 -- lines of names, with r after them
 module _ (h : Head) where
@@ -119,6 +114,16 @@ checks R weak bs (Ok c) h e =
     (agree_at_ok _ (checked bs) p.0 c (checked_is bs h ∙ p.1) (weak p.0 c p.2), (p.0, checked_is bs h ∙ p.1, weak p.0 c p.2))
 checks R weak bs (Err f) h e = (agree_at_err _ (checked bs) f f (checked_is bs h ∙ agree_err R (sheet bs) f e) refl, tt)
 
+-- a sheet is accepted with the counts that it says
+pub accepted_by_counts : (bs : List ℕ) (c : Counts) → counts_of bs ≡ Ok c → Accepted bs c
+accepted_by_counts bs c e =
+    let k : Read → Result Counts Refusal = λ x. Ok x.counts in
+    let p = then_ok (checked bs) k c e in
+    (p.0, p.1, sym (ok_same p.0.counts c p.2))
+
+pub counts_accepted : (bs : List ℕ) (c : Counts) → Accepted bs c → counts_of bs ≡ Ok c
+counts_accepted bs c p = let k : Read → Result Counts Refusal = λ x. Ok x.counts in ap (λ r. then r k) p.1 ∙ ap Ok (sym p.2)
+
 pub unnamed_ok : (r : Result Read Refusal) (x : Read) → unnamed r ≡ Ok x → r ≡ Ok x
 unnamed_ok (Ok y) x e = let same : y ≡ x = cc in ap Ok same
 unnamed_ok (Err f) x e = absurd (grind arith)
@@ -155,7 +160,3 @@ module _ (bs : List ℕ) (a : ℕ) where
 
   pub its_name : (x : Read) (c : Counts) → checked bs ≡ Ok x → c ≡ x.counts → a < c.actions → named bs a ≡ Ok (action_name bs c.facts a)
   its_name x c e k h = read_sheet x c e k ∙ cond-true (ltb a c.actions) _ _ (lt-ltb a c.actions h)
-
--- the line after k others
-pub line_at : (k : ℕ) (ls : List (List ℕ)) → get_or ls k [] ≡ get_or (drop k ls) 0 []
-line_at k ls = let same : k + 0 ≡ k = omega arith in sym (get_or-drop k ls 0 [] ∙ ap (λ n. get_or ls n []) same)

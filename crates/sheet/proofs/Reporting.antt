@@ -1,8 +1,7 @@
 -- The names of a plan in a text: one more name, one more line.
-use Rattle.std.proofs.Common.{◌≡◌, ℕ, ◌+◌, ◌<◌, ◌≤◌, true, false, ◌&&◌, ltb, leb, List, [], ◌∷◌, ◌++◌, length, get_or, take, drop, Ok, Err, codes, decimal, Result, sym, refl, ap, ◌∙◌, arith}
+use Rattle.std.proofs.Common.{◌≡◌, ℕ, ◌<◌, ◌≤◌, true, false, ◌&&◌, ltb, leb, List, [], ◌∷◌, ◌++◌, length, get_or, take, Ok, Err, codes, decimal, Result, sym, refl, ap, ◌∙◌, arith}
 use Rattle.std.specs.List.{flat_map}
-use Rattle.std.proofs.lemmas.List.{at_drop_more, at_drop_all, take_more, flat_map_more}
-use Rattle.std.proofs.lemmas.Bool.{and_parts, lt-ltb, le-ltb, ltb-true, cond-false}
+use Rattle.std.proofs.lemmas.Bool.{and_parts, le-ltb, le-leb, ltb-true, cond-false}
 use Rattle.search.specs.declared.verdict.Verdict.{Verdict}
 use Rattle.search.specs.declared.verdict.Verdict.TheVariants as verdict
 use Rattle.sheet.specs.declared.counts.Counts.{Counts}
@@ -12,46 +11,17 @@ use Rattle.sheet.specs.declared.refusal.Refusal.{Refusal}
 use Rattle.sheet.specs.Actions.{action_name, checked, unnamed}
 use Rattle.sheet.specs.Bodies.{over}
 use Rattle.sheet.specs.Dues.{then}
-use Rattle.sheet.specs.Report.{Added, Written, ReportsTheSheet, below, blank, ended, planned, report_text, text, text_for}
+use Rattle.sheet.specs.Report.{Written, ReportsTheSheet, below, blank, ended, fits_plan, planned, report_text, text, text_for}
 use Rattle.sheet.specs.Sheet.{Read}
 use Rattle.sheet.proofs.Answered.{agree_ok, agree_at_ok, then_ok, kept, passed, ok_same}
 use Rattle.sheet.proofs.ActionNames.{checked_ok, sheet_names, unnamed_ok}
-use Rattle.sheet.proofs.Adding.{added_all, added_more, added_as}
 
--- a loop that tests the numbers of a plan
-module _ (n : ℕ) (plan : List ℕ) (i : ℕ) where
-  pub below_step : i < length plan → below n (drop i plan) ≡ (ltb (get_or plan i 0) n && below n (drop (i + 1) plan))
-  below_step h = at_drop_more (below n) plan i 0 h
+pub fits_by_numbers : (actions n : ℕ) (plan : List ℕ) → n ≤ 30 → n ≤ length plan → fits_plan actions n plan ≡ below actions (take n plan)
+fits_by_numbers actions n plan few long = rw (le-leb n 30 few, le-leb n (length plan) long)
 
-  pub below_more : i < length plan → get_or plan i 0 < n → below n (drop (i + 1) plan) ≡ below n (drop i plan)
-  below_more h k = sym (below_step h ∙ ap (λ b. b && below n (drop (i + 1) plan)) (lt-ltb (get_or plan i 0) n k))
-
-  pub below_not : i < length plan → n ≤ get_or plan i 0 → below n (drop i plan) ≡ false
-  below_not h k = below_step h ∙ ap (λ b. b && below n (drop (i + 1) plan)) (le-ltb (get_or plan i 0) n k)
-
-  pub below_all : length plan ≤ i → below n (drop i plan) ≡ true
-  below_all h = at_drop_all (below n) plan i h
-
-  pub below_next : i < length plan → below n (drop i plan) ≡ true → (get_or plan i 0 < n) × (below n (drop (i + 1) plan) ≡ true)
-  below_next h e =
-      let p = and_parts (ltb (get_or plan i 0) n) (below n (drop (i + 1) plan)) (sym (below_step h) ∙ e) in
-      (ltb-true (get_or plan i 0) n p.0, p.1)
-
--- one more line of a text
-pub one_more : (f : ℕ → List ℕ) (plan : List ℕ) (i : ℕ) → i < length plan → flat_map f (take i plan) ++ f (get_or plan i 0) ≡ flat_map f (take (i + 1) plan)
-one_more f plan i h = flat_map_more f [] (take i plan) (get_or plan i 0) ∙ ap (flat_map f) (sym (take_more plan i 0 h))
-
--- one more name and its LF
-pub name_more : (g : ℕ → List ℕ) (plan n : List ℕ) (i : ℕ) (a b c d : List ℕ) (from r s t : ℕ) → i < length plan → n ≡ g (get_or plan i 0)
-    → Added a from (flat_map (λ x. ended (g x)) (take i plan)) b r → Added b r n c s → Added c s (10 ∷ []) d t → Added a from (flat_map (λ x. ended (g x)) (take (i + 1) plan)) d t
-name_more g plan n i a b c d from r s t h e p q u =
-    let last = added_as b d (n ++ 10 ∷ []) (ended (g (get_or plan i 0))) r t (ap ended e) (added_more b c d n (10 ∷ []) r s t q u) in
-    added_as a d _ _ from t (one_more (λ x. ended (g x)) plan i h)
-    (added_more a b d (flat_map (λ x. ended (g x)) (take i plan)) (ended (g (get_or plan i 0))) from r t p last)
-
--- a text that was added to nothing is what the call has written
-pub written_at : (told : Result (List ℕ) Fault) (t before after : List ℕ) (r : ℕ) → told ≡ Ok t → Added before 0 t after r → Written told before after (Ok r)
-written_at told t before after r e p = agree_at_ok _ told t r e (added_all before after t r p)
+-- a text that stands at the front of a buffer is what the call has written
+pub written_at : (told : Result (List ℕ) Fault) (t bytes before after : List ℕ) (r : ℕ) → told ≡ Ok t → bytes ≡ t → r ≡ length bytes → after ≡ over bytes before → Written told before after (Ok r)
+written_at told t bytes before after r e same p q = agree_at_ok _ told t r e (p ∙ ap length same, q ∙ ap (λ x. over x before) same)
 
 -- the same names give the same text
 joined_same : (n : ℕ) (f g : ℕ → List ℕ) → ((a : ℕ) → a < n → f a ≡ g a) → (plan : List ℕ) → below n plan ≡ true → flat_map (λ a. ended (f a)) plan ≡ flat_map (λ a. ended (g a)) plan

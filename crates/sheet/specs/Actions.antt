@@ -15,6 +15,10 @@ use Rattle.sheet.specs.Words.{words}
 abbrev pub checked : List ℕ → Result Read Refusal
 checked bs = sized bs (sheet bs)
 
+-- The counts that a sheet says, where no tables are asked for.
+abbrev pub counts_of : List ℕ → Result Counts Refusal
+counts_of bs = then (checked bs) (λ x. Ok x.counts)
+
 -- A sheet that is accepted, with its counts.
 abbrev pub Accepted : List ℕ → Counts → Type 0
 Accepted bs c = (x : Read) × (checked bs ≡ Ok x) × (c ≡ x.counts)

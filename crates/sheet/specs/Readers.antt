@@ -1,9 +1,9 @@
 -- What a reader of words or of lines has still to give.
-use Rattle.std.specs.Prelude.{◌≡◌, ℕ, List, [], ◌∷◌, Some, None, Option}
+use Rattle.std.specs.Prelude.{ℕ, List, [], Some, None, Option}
 use Rattle.std.specs.Borrow.{Bor}
 use Rattle.sheet.specs.declared.lines.Lines.{Lines}
 use Rattle.sheet.specs.declared.words.Words.{Words}
-use Rattle.sheet.specs.Lines.{lines, tail}
+use Rattle.sheet.specs.Lines.{lines}
 use Rattle.sheet.specs.Words.{words}
 
 -- The words of what is left of a line: none after its last word.
@@ -18,12 +18,3 @@ left w = left_of w.rest
 -- The lines that a reader has still to give.
 abbrev pub to_come : Lines → List (List ℕ)
 to_come l = lines l.rest.now
-
--- What stands after the last LF of what a reader has still to give.
-abbrev pub tail_of : Lines → List ℕ
-tail_of l = tail l.rest.now
-
--- The next of ws, with ws' left after it; or nothing is left.
-abbrev pub Next : List (List ℕ) → Option (Bor (List ℕ)) → List (List ℕ) → Type 0
-Next ws None ws' = (ws ≡ []) × (ws' ≡ [])
-Next ws (Some w) ws' = ws ≡ w.now ∷ ws'

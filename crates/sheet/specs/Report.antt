@@ -1,6 +1,6 @@
 -- What is written of a verdict, and of a refusal.
-use Rattle.std.specs.Prelude.{◌≡◌, ℕ, ◌+◌, Bool, true, false, cond, ◌&&◌, List, [], ◌∷◌, ◌++◌, length, take, Ok, Err, codes, decimal, Result, nat_le, nat_lt, slice_index_or}
-use Rattle.std.specs.List.{flat_map}
+use Rattle.std.specs.Prelude.{◌≡◌, ℕ, Bool, true, false, cond, ◌&&◌, List, [], ◌∷◌, ◌++◌, length, take, Ok, Err, codes, decimal, Result, nat_le, nat_lt, slice_index_or}
+use Rattle.std.specs.List.{flat_map, list_all}
 use Rattle.search.specs.declared.verdict.Verdict.{Verdict}
 use Rattle.search.specs.declared.verdict.Verdict.TheVariants as verdict
 use Rattle.sheet.specs.declared.counts.Counts.{Counts}
@@ -31,8 +31,7 @@ text name (verdict.None k) plan = ended (codes "none " ++ decimal k)
 
 -- All numbers are below n.
 abbrev pub below : ℕ → List ℕ → Bool
-below n [] = true
-below n (a ∷ rest) = nat_lt a n && below n rest
+below n plan = list_all (λ a. nat_lt a n) plan
 
 -- At most 30 numbers of actions stand in a plan.
 abbrev pub fits_plan : ℕ → ℕ → List ℕ → Bool
@@ -81,8 +80,3 @@ Written told before after r = Agree (λ text n. (n ≡ length text) × (after �
 abbrev pub ReportsTheSheet : List ℕ → Verdict → List ℕ → List ℕ → List ℕ → Result ℕ Fault → Type 0
 ReportsTheSheet bs v plan before after (Ok n) = (s : JobSheet) × WellFormed s × (bs ≡ spell s) × (after ≡ over (text (λ a. slice_index_or s.acts a []) v plan) before)
 ReportsTheSheet bs v plan before after (Err e) = Unit {0}
-
--- Bytes are added to what stands at the front of a buffer, up to the place `from`: they end at the place r.
-abbrev pub Added : List ℕ → ℕ → List ℕ → List ℕ → ℕ → Type 0
-Added before from bytes after r =
-    (r ≡ from + length bytes) × ((text whole : List ℕ) → before ≡ over text whole → from ≡ length text → after ≡ over (text ++ bytes) whole)

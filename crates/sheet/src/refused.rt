@@ -4,7 +4,7 @@ ghost use Rattle.sheet.specs.Report.{refusal_text, Written};
 
 use crate::fault::Fault;
 use crate::refusal::Refusal;
-use crate::text::{put, put_labelled};
+use crate::text::{Text, put, put_labelled, write};
 
 /// Writes the refusal of a sheet, `refused N line L` and LF, with line 0 where the sheet was refused before its lines.
 /// Answers how many bytes were written. Refused where the buffer has fewer than 800 bytes.
@@ -16,7 +16,9 @@ pub fn write_refusal(refusal: Refusal, buffer: &mut [u8]) -> Result<usize, Fault
     if buffer.len() < 800 {
         return Err(Fault::BufferTooShort);
     }
-    let at = put_labelled(buffer, 0, b"refused ", refusal.fault.number() as usize);
-    let at = put_labelled(buffer, at, b" line ", refusal.told_line());
-    Ok(put(buffer, at, b"\n"))
+    let mut text = Text::new();
+    put_labelled(&mut text, b"refused ", usize::from(refusal.fault.number()));
+    put_labelled(&mut text, b" line ", refusal.told_line());
+    put(&mut text, b"\n");
+    Ok(write(&text, buffer))
 }

@@ -2,9 +2,10 @@
 ghost use Rattle.std.specs.Prelude.{◌≡◌, ◌≤◌, length, IfOk, OnErr};
 ghost use Rattle.sheet.specs.Report.{report_text, Written, ReportsTheSheet};
 
+use crate::checked::Checked;
 use crate::fault::Fault;
-use crate::verdicts::write_verdict;
-use crate::whole::check;
+use crate::text::write;
+use crate::verdicts::verdict_text;
 use search::verdict::Verdict;
 
 /// Writes what a search says of a sheet: `found N` and the names of the N actions of the plan, one a line; or `none K`; or
@@ -12,6 +13,7 @@ use search::verdict::Verdict;
 ///
 /// Refused where the search is blank, where the buffer has fewer than 800 bytes, and where the sheet is refused or the plan
 /// is not one of it: fewer numbers than N, more than 30, or a number that is no action's.
+// Stays a buffer: it is the caller's, with 800 bytes at least, and the bytes after the text stay as they were.
 pub fn report(
     sheet: &[u8],
     verdict: Verdict,
@@ -30,8 +32,7 @@ pub fn report(
     if buffer.len() < 800 {
         return Err(Fault::BufferTooShort);
     }
-    match check(sheet) {
-        Ok(counts) => write_verdict(sheet, counts, verdict, plan, buffer),
-        Err(_) => Err(Fault::Mismatch),
-    }
+    let sheet = Checked::of(sheet).map_err(|_| Fault::Mismatch)?;
+    let text = verdict_text(sheet, verdict, plan)?;
+    Ok(write(&text, buffer))
 }

@@ -1,43 +1,54 @@
-//! Writing text into a buffer.
-ghost use Rattle.std.specs.Prelude.{◌≡◌, ◌+◌, ◌<◌, ◌≤◌, ◌++◌, length, decimal};
-ghost use Rattle.sheet.specs.Report.{Added};
+//! Text that is put together before it is written into a caller's buffer.
+ghost use Rattle.std.specs.Prelude.{◌≡◌, ◌+◌, ◌≤◌, ◌++◌, length, decimal};
+ghost use Rattle.sheet.specs.Bodies.{over};
+ghost use Rattle.sheet.specs.Report.{ended};
 
-/// Writes bytes from the place `at` on; answers the place after them.
-pub fn put(buffer: &mut [u8], at: usize, bytes: &[u8]) -> usize
-    requires { at + length bytes.now ≤ length buffer.old }
-    ensures after { Added buffer.old at bytes.now buffer.new result }
+use arrayvec::ArrayVec;
+use itoa::Buffer;
+
+/// A text of at most 800 bytes.
+pub type Text = ArrayVec<u8, 800>;
+
+/// Adds bytes to a text.
+pub fn put(text: &mut Text, bytes: &[u8])
+    requires { length text.old.items + length bytes.now ≤ 800 }
+    ensures { text.new.items ≡ text.old.items ++ bytes.now }
 {
-    let end = at + bytes.len();
-    buffer[at..end].copy_from_slice(bytes);
+    let _ = text.try_extend_from_slice(bytes);
+}
+
+/// Adds a label and a number to a text.
+pub fn put_labelled(text: &mut Text, label: &[u8], number: usize)
+    requires { length text.old.items + length label.now + 20 ≤ 800 }
+    ensures value { text.new.items ≡ text.old.items ++ (label.now ++ decimal number) }
+    ensures within { length text.new.items ≤ length text.old.items + length label.now + 20 }
+{
+    put(text, label);
+    let mut digits = Buffer::new();
+    put(text, digits.format(number).as_bytes());
+}
+
+/// A line of a label and a number.
+pub fn line(label: &[u8], number: usize) -> Text
+    requires { length label.now + 21 ≤ 800 }
+    ensures value { result.items ≡ ended (label.now ++ decimal number) }
+    ensures within { length result.items ≤ length label.now + 21 }
+{
+    let mut text = Text::new();
+    put_labelled(&mut text, label, number);
+    put(&mut text, b"\n");
+    text
+}
+
+/// Writes a text at the front of a buffer; answers its length.
+pub fn write(text: &Text, buffer: &mut [u8]) -> usize
+    requires { 800 ≤ length buffer.old }
+    ensures value { result ≡ length text.now.items }
+    ensures after { buffer.new ≡ over text.now.items buffer.old }
+    ensures within { result ≤ 800 }
+{
+    let bytes = text.as_slice();
+    let end = bytes.len();
+    buffer[..end].copy_from_slice(bytes);
     end
-}
-
-/// Writes a number from the place `at` on; answers the place after it.
-pub fn put_number(buffer: &mut [u8], at: usize, number: usize) -> usize
-    requires { at + length (decimal number) ≤ length buffer.old }
-    ensures after { Added buffer.old at (decimal number) buffer.new result }
-{
-    if number < 10 {
-        return put(buffer, at, &[digit(number)]);
-    }
-    let end = put_number(buffer, at, number / 10);
-    put(buffer, end, &[digit(number % 10)])
-}
-
-/// Writes a label and a number from the place `at` on; answers the place after them.
-pub fn put_labelled(buffer: &mut [u8], at: usize, label: &[u8], number: usize) -> usize
-    requires { at + length label.now + 20 ≤ length buffer.old }
-    ensures after { Added buffer.old at (label.now ++ decimal number) buffer.new result }
-    ensures within { result ≤ at + length label.now + 20 }
-{
-    let end = put(buffer, at, label);
-    put_number(buffer, end, number)
-}
-
-/// The byte of a digit.
-fn digit(number: usize) -> u8
-    requires { number < 10 }
-    ensures value { result ≡ 48 + number }
-{
-    b'0' + number as u8
 }

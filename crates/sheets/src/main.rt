@@ -4,14 +4,16 @@
 //! the tables (`+` true, `-` false, `.` neither; a row to an action) and a report that names all actions.
 #![tactic(auto)]
 
+ghost use Rattle.std.specs.Prelude.{◌<◌};
+
 use search::verdict::Verdict;
 use sheet::counts::Counts;
 use sheet::read::read;
 use sheet::refusal::Refusal;
 use sheet::refused::write_refusal;
 use sheet::report::report;
-use std::io;
 use std::io::{Read, Write};
+use std::{array, io};
 
 #[cfg(test)]
 mod tests;
@@ -19,36 +21,19 @@ mod tests;
 fn main(rt: HostRuntime) -> io::Result<()> {
     let mut input = Vec::new(rt.alloc());
     let _ = rt.stdin().read_to_end(&mut input)?;
-    let mut rest = input.as_slice();
-    for _ in 0..1_000_000 {
-        let (sheet, more) = cut(rest, b'%');
-        if !sheet.is_empty() {
-            show(rt, sheet)?;
-        }
-        match more {
-            None => break,
-            Some(next) => rest = next,
+    for entry in input.as_slice().split(|byte| *byte == b'%') {
+        if !entry.is_empty() {
+            show(rt, entry)?;
         }
     }
     Ok(())
 }
 
-/// The bytes before the first `mark`, and those after it where there is one.
-fn cut<'a>(bytes: &'a [u8], mark: u8) -> (&'a [u8], Option<&'a [u8]>) {
-    for (i, byte) in bytes.iter().enumerate() {
-        if *byte == mark {
-            return (&bytes[0..i], Some(&bytes[i + 1..bytes.len()]));
-        }
-    }
-    (bytes, None)
-}
-
 /// Prints the title of an entry and what its sheet says.
 fn show(rt: HostRuntime, entry: &[u8]) -> io::Result<()> {
-    let (title, sheet) = match cut(entry, b'\n') {
-        (title, Some(sheet)) => (title, sheet),
-        (title, None) => (title, b"" as &[u8]),
-    };
+    let mut parts = entry.splitn(2, |byte| *byte == b'\n');
+    let title = parts.next().unwrap_or(b"");
+    let sheet = parts.next().unwrap_or(b"");
     rt.stdout().write_all(b"%")?;
     rt.stdout().write_all(title)?;
     rt.stdout().write_all(b"\n")?;
@@ -81,44 +66,32 @@ fn show_table(
     table: &[i8],
     facts: usize,
     rows: usize,
-) -> io::Result<()> {
+) -> io::Result<()>
+    requires { 0 < facts }
+{
     println!(rt; "{title}")?;
-    let mut left = table;
-    for _ in 0..rows {
-        if left.len() < facts {
-            break;
-        }
-        let (row, more) = left.split_at(facts);
+    for row in table.chunks_exact(facts).take(rows) {
         for cell in row {
-            let sign: &[u8] = if *cell == 0 {
-                b"."
-            } else if *cell > 0 {
-                b"+"
-            } else {
-                b"-"
+            let sign: &[u8] = match *cell {
+                0 => b".",
+                1.. => b"+",
+                _ => b"-",
             };
             rt.stdout().write_all(sign)?;
         }
         rt.stdout().write_all(b"\n")?;
-        left = more;
     }
     Ok(())
 }
 
 /// Prints the report of a plan that has the first actions of the sheet in their order, at most 30.
 fn show_report(rt: HostRuntime, sheet: &[u8], actions: usize) -> io::Result<()> {
-    let mut plan = [0u8; 30];
-    for (i, step) in plan.iter_mut().enumerate() {
-        *step = i as u8;
-    }
-    let length = if actions < 30 { actions as u8 } else { 30 };
+    let plan: [u8; 30] = array::from_fn(|i| i as u8);
+    let length = actions.min(30) as u8;
     let mut buffer = [0u8; 800];
     match report(sheet, Verdict::Found(length), &plan, &mut buffer) {
         Ok(n) => rt.stdout().write_all(&buffer[0..n]),
-        Err(fault) => {
-            let number = fault.number();
-            println!(rt; "no report: {number}")
-        }
+        Err(fault) => println!(rt; "no report: {}", fault.number()),
     }
 }
 
@@ -127,9 +100,6 @@ fn show_refusal(rt: HostRuntime, refusal: Refusal) -> io::Result<()> {
     let mut buffer = [0u8; 800];
     match write_refusal(refusal, &mut buffer) {
         Ok(n) => rt.stdout().write_all(&buffer[0..n]),
-        Err(fault) => {
-            let number = fault.number();
-            println!(rt; "no text: {number}")
-        }
+        Err(fault) => println!(rt; "no text: {}", fault.number()),
     }
 }

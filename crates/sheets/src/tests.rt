@@ -133,6 +133,6 @@ fn a_refusal_is_written_with_its_line(rt: HostRuntime) {
 #[test]
 fn an_action_has_its_name(rt: HostRuntime) -> Result<(), Fail> {
     assert!(rt; action_name(SWITCH, 1)? == b"off".as_slice());
-    assert_eq!(rt; action_name(SWITCH, 2).is_err(), true);
+    assert_eq!(rt; action_name(SWITCH, 2), Err(Fault::Mismatch));
     Ok(())
 }

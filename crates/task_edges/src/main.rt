@@ -4,17 +4,20 @@
 use std::io;
 use tasks::TableTask;
 use tasks::ban::Ban;
+use tasks::refusal::Refusal;
 use tasks::restart::Restart;
 use tasks::task::Task;
+
+// The number of the refusal, or 0 where the task is made.
+fn answer(made: Result<TableTask, Refusal>) -> u8 {
+    made.err().map_or(0, Refusal::number)
+}
 
 // One table task is made of zeros, but for the start, which is false throughout.
 fn counts(rt: &HostRuntime, facts: usize, actions: usize) -> io::Result<()> {
     let cells = [0i8; 8256];
     let start = [-1i8; 65];
-    let answer = match TableTask::from_tables(facts, actions, &cells, &cells, &start, &cells) {
-        Ok(_) => 0,
-        Err(why) => why.number(),
-    };
+    let answer = answer(TableTask::from_tables(facts, actions, &cells, &cells, &start, &cells));
     println!(rt; "{facts} facts, {actions} actions: {answer}")
 }
 
@@ -26,120 +29,102 @@ fn lengths(
     start: &[i8],
     goal: &[i8],
 ) -> io::Result<()> {
-    let answer = match TableTask::from_tables(2, 2, needs, makes, start, goal) {
-        Ok(_) => 0,
-        Err(why) => why.number(),
-    };
-    let n = needs.len();
-    let m = makes.len();
-    let s = start.len();
-    let g = goal.len();
-    println!(rt; "tables of {n}, {m}, {s} and {g} cells: {answer}")
+    let answer = answer(TableTask::from_tables(2, 2, needs, makes, start, goal));
+    println!(rt;
+        "tables of {}, {}, {} and {} cells: {answer}",
+        needs.len(),
+        makes.len(),
+        start.len(),
+        goal.len()
+    )
 }
 
 // One fact and one action, with the given cells.
 fn cells(rt: &HostRuntime, need: i8, make: i8, start: i8, goal: i8) -> io::Result<()> {
-    let answer = match TableTask::from_tables(1, 1, &[need], &[make], &[start], &[goal]) {
-        Ok(_) => 0,
-        Err(why) => why.number(),
-    };
+    let answer = answer(TableTask::from_tables(1, 1, &[need], &[make], &[start], &[goal]));
     println!(rt; "cells {need}, {make}, {start} and {goal}: {answer}")
 }
 
+// A task that is made, as one that the program can't go on without.
+fn made<T, E: Drop>(task: Result<T, E>) -> io::Result<T> {
+    task.map_err(|_| io::ErrorKind::InvalidInput.into())
+}
+
 // Three facts and two actions: action 0 needs fact 0 and makes fact 1, action 1 makes fact 2.
-fn small() -> Result<TableTask, tasks::refusal::Refusal> {
-    TableTask::from_tables(
+fn small() -> io::Result<TableTask> {
+    made(TableTask::from_tables(
         3,
         2,
         &[1, 0, 0, 0, 0, 0],
         &[0, 1, 0, 0, 0, 1],
         &[1, -1, -1],
         &[0, 1, 1],
-    )
+    ))
 }
 
+// Stays beside `restarts`: the two share the match alone, since each is given another list and says other things.
 fn bans(rt: &HostRuntime, out: &[usize]) -> io::Result<()> {
-    let Ok(below) = small() else {
-        return Ok(());
-    };
-    match Ban::new(below, out) {
-        Ok(task) => {
-            let first = task.usable(0);
-            let second = task.usable(1);
-            println!(rt; "ban {out:?}: usable {first} {second}")
-        }
-        Err(refused) => {
-            let (why, below) = refused;
-            let number = why.number();
-            let back = below.usable(0);
-            println!(rt; "ban {out:?}: {number}, and action 0 of the task is usable: {back}")
+    match Ban::new(small()?, out) {
+        Ok(task) => { println!(rt; "ban {out:?}: usable {} {}", task.usable(0), task.usable(1)) }
+        Err((why, below)) => {
+            println!(rt;
+                "ban {out:?}: {}, and action 0 of the task is usable: {}",
+                why.number(),
+                below.usable(0)
+            )
         }
     }
 }
 
 fn restarts(rt: &HostRuntime, seen: &[i8]) -> io::Result<()> {
-    let Ok(below) = small() else {
-        return Ok(());
-    };
-    match Restart::new(below, seen) {
+    match Restart::new(small()?, seen) {
         Ok(task) => {
-            let a = task.start(0);
-            let b = task.start(1);
-            let c = task.start(2);
-            println!(rt; "restart {seen:?}: starts {a} {b} {c}")
+            println!(rt;
+                "restart {seen:?}: starts {} {} {}",
+                task.start(0),
+                task.start(1),
+                task.start(2)
+            )
         }
-        Err(refused) => {
-            let (why, below) = refused;
-            let number = why.number();
-            let back = below.start(0);
-            println!(rt; "restart {seen:?}: {number}, and fact 0 of the task starts {back}")
+        Err((why, below)) => {
+            println!(rt;
+                "restart {seen:?}: {}, and fact 0 of the task starts {}",
+                why.number(),
+                below.start(0)
+            )
         }
     }
 }
 
 // What a task of three facts and two actions answers, a line of needs, makes, start, goals and usable actions.
 fn show<T: Task>(rt: &HostRuntime, name: &str, task: &T) -> io::Result<()> {
-    let start = task.start_state();
-    let goals = task.goals();
-    let usable = task.usable_actions().bits;
     let row = task.row(0);
-    let n = row.needs.trues;
-    let m = row.makes.trues;
-    let g = goals.trues;
     println!(rt;
-        "{name}: start {start}, goals {g}, usable {usable}, action 0 needs {n} and makes {m}"
+        "{name}: start {}, goals {}, usable {}, action 0 needs {} and makes {}",
+        task.start_state(),
+        task.goals().trues.bits,
+        task.usable_actions().bits,
+        row.needs.trues.bits,
+        row.makes.trues.bits
     )
 }
 
 // A ban over a restart, and a restart over a ban.
 fn piles(rt: &HostRuntime) -> io::Result<()> {
-    let Ok(one) = small() else {
-        return Ok(());
-    };
-    let Ok(other) = small() else {
-        return Ok(());
-    };
-    let Ok(started) = Restart::new(one, &[2, -3]) else {
-        return Ok(());
-    };
-    let Ok(barred) = Ban::new(other, &[1]) else {
-        return Ok(());
-    };
-    if let Ok(pile) = Ban::new(started, &[1]) {
-        show(rt, "ban over restart", &pile)?;
-    }
-    if let Ok(pile) = Restart::new(barred, &[2, -3]) {
-        show(rt, "restart over ban", &pile)?;
-    }
-    Ok(())
+    let started = made(Restart::new(small()?, &[2, -3]))?;
+    show(rt, "ban over restart", &made(Ban::new(started, &[1]))?)?;
+    let barred = made(Ban::new(small()?, &[1]))?;
+    show(
+        rt,
+        "restart over ban",
+        &made(Restart::new(barred, &[2, -3]))?,
+    )
 }
 
 fn main(rt: HostRuntime) -> io::Result<()> {
-    counts(&rt, 0, 1)?;
-    counts(&rt, 1, 0)?;
-    counts(&rt, 64, 128)?;
-    counts(&rt, 65, 1)?;
-    counts(&rt, 1, 129)?;
+    for (facts, actions) in [(0, 1), (1, 0), (64, 128), (65, 1), (1, 129)] {
+        counts(&rt, facts, actions)?;
+    }
     lengths(&rt, &[0; 4], &[0; 4], &[1; 2], &[0; 2])?;
     lengths(&rt, &[0; 3], &[0; 4], &[1; 2], &[0; 2])?;
     lengths(&rt, &[0; 4], &[0; 3], &[1; 2], &[0; 2])?;
@@ -151,25 +136,35 @@ fn main(rt: HostRuntime) -> io::Result<()> {
 }
 
 fn edges_of_cells(rt: &HostRuntime) -> io::Result<()> {
-    cells(rt, 1, -1, 1, -1)?;
-    cells(rt, -1, 1, -1, 1)?;
-    cells(rt, 2, 0, 1, 0)?;
-    cells(rt, 0, -2, 1, 0)?;
-    cells(rt, 0, 0, 0, 0)?;
-    cells(rt, 0, 0, 2, 0)?;
-    cells(rt, 0, 0, 1, -2)
+    for [need, make, start, goal] in [
+        [1, -1, 1, -1],
+        [-1, 1, -1, 1],
+        [2, 0, 1, 0],
+        [0, -2, 1, 0],
+        [0, 0, 0, 0],
+        [0, 0, 2, 0],
+        [0, 0, 1, -2],
+    ] {
+        cells(rt, need, make, start, goal)?;
+    }
+    Ok(())
 }
 
 fn edges_of_layers(rt: &HostRuntime) -> io::Result<()> {
-    bans(rt, &[])?;
-    bans(rt, &[1])?;
-    bans(rt, &[2])?;
-    restarts(rt, &[])?;
-    restarts(rt, &[3, -1])?;
-    restarts(rt, &[-3])?;
-    restarts(rt, &[0])?;
-    restarts(rt, &[4])?;
-    restarts(rt, &[-4])?;
-    restarts(rt, &[2, 2])?;
-    restarts(rt, &[2, -2])
+    for out in [&[][..], &[1], &[2]] {
+        bans(rt, out)?;
+    }
+    for seen in [
+        &[][..],
+        &[3, -1],
+        &[-3],
+        &[0],
+        &[4],
+        &[-4],
+        &[2, 2],
+        &[2, -2],
+    ] {
+        restarts(rt, seen)?;
+    }
+    Ok(())
 }

@@ -1,12 +1,11 @@
 -- What an action needs and makes, read off sets of literals: numbers that say a literal are in the set and no others.
-use Rattle.std.proofs.Common.{◌≡◌, ℕ, zero, suc, ◌-◌, ◌^◌, ◌<◌, ◌≤◌, Bool, true, false, not, ◌&&◌, ◌||◌, ltb, ℤ, pos, negsuc, Decides, sym, refl, ap, ◌∙◌, ap₂, inl, inr, arith}
-use lib.Bits.{bit_and, bit_or, and_le_r}
-use Rattle.std.proofs.lemmas.Bool.{both_ways, cases_lt, lt-ltb, le-ltb, false≢true}
+use Rattle.std.proofs.Common.{◌≡◌, ℕ, zero, suc, ◌^◌, ◌<◌, ◌≤◌, Bool, true, false, not, ◌&&◌, ◌||◌, ltb, ℤ, pos, negsuc, Decides, sym, refl, ap, ◌∙◌, ap₂, inl, inr, arith}
+use Rattle.std.proofs.lemmas.Bool.{cases_lt, lt-ltb, le-ltb, false≢true}
 use Rattle.sets.specs.Bits.{bit}
 use Rattle.sets.specs.Sets.{has}
 use Rattle.sets.specs.Signs.{says, is}
 use Rattle.sets.specs.declared.literals.Literals.{Literals}
-use Rattle.sets.proofs.BitLaws.{bit_of_and, bit_of_or, bit_without, bit_high}
+use Rattle.sets.proofs.Membership.{member_below}
 use Rattle.tasks.specs.Meaning.{Three, value}
 use Rattle.tasks.specs.Rows.{Names}
 use Rattle.tasks.specs.States.{Holds, Meets, packed, put}
@@ -44,10 +43,10 @@ held z b h true e = h.0 e
 held z b h false e = h.1 e
 
 -- only facts below 64 are in a set
-pub has_below : (set : Literals) → set.trues < 2 ^ 64 → set.falses < 2 ^ 64 → (f : ℕ) (v : Bool) → has set f v ≡ true → f < 64
+pub has_below : (set : Literals) → set.trues.bits < 2 ^ 64 → set.falses.bits < 2 ^ 64 → (f : ℕ) (v : Bool) → has set f v ≡ true → f < 64
 unfolding has
-has_below set p q f true e = elim (cases_lt f 64) [ inl l ↦ l | inr l ↦ absurd (both_ways (bit set.trues f) (bit_high 64 set.trues f p l) e) ]
-has_below set p q f false e = elim (cases_lt f 64) [ inl l ↦ l | inr l ↦ absurd (both_ways (bit set.falses f) (bit_high 64 set.falses f q l) e) ]
+has_below set p q f true e = member_below 64 set.trues f p e
+has_below set p q f false e = member_below 64 set.falses f q e
 
 -- a literal is missing from a set less a state's literals where the state has it
 pub left_none : (x y : Bool) → x ≡ true → (x && not y) ≡ false → y ≡ true
@@ -87,21 +86,12 @@ and_false true = refl
 and_false false = refl
 
 -- the state that an action leaves, by whole words
-pub after_packed : (facts : ℕ) (numbers : ℕ → ℤ) (set : Literals) (s below : ℕ) → facts ≤ 64 → s < 2 ^ 64 → set.trues < 2 ^ 64 → set.falses < 2 ^ 64 → below < 2 ^ 64
-    → bit_or s set.trues < 2 ^ 64 → Names numbers set → ((f : ℕ) → bit below f ≡ ltb f facts)
-    → bit_and (bit_and (bit_or s set.trues) (2 ^ 64 - 1 - set.falses)) below ≡ packed (λ f. put (numbers f) (bit s f)) facts
-unfolding has
-after_packed facts numbers set s below few ss ts fs bs os names inside =
-    is_packed 64 (λ f. put (numbers f) (bit s f)) facts _ few
-    (let k = and_le_r (bit_and (bit_or s set.trues) (2 ^ 64 - 1 - set.falses)) below in omega arith)
+pub after_packed : (facts : ℕ) (numbers : ℕ → ℤ) (set : Literals) (s x : ℕ) → facts ≤ 64 → x < 2 ^ 64 → Names numbers set
+    → ((f : ℕ) → bit x f ≡ (((bit s f || has set f true) && not (has set f false)) && ltb f facts)) → x ≡ packed (λ f. put (numbers f) (bit s f)) facts
+after_packed facts numbers set s x few small names is =
+    is_packed 64 (λ f. put (numbers f) (bit s f)) facts x few small
     (λ f l. bits f ∙ ap (λ b. put (numbers f) (bit s f) && b) (lt-ltb f facts l) ∙ and_true (put (numbers f) (bit s f)))
     (λ f l. bits f ∙ ap (λ b. put (numbers f) (bit s f) && b) (le-ltb f facts l) ∙ and_false (put (numbers f) (bit s f)))
   where
-    bits : (f : ℕ) → bit (bit_and (bit_and (bit_or s set.trues) (2 ^ 64 - 1 - set.falses)) below) f ≡ (put (numbers f) (bit s f) && ltb f facts)
-    bits f =
-        bit_of_and (bit_and (bit_or s set.trues) (2 ^ 64 - 1 - set.falses)) below f
-        ∙ ap₂ (λ x y. x && y)
-        (bit_without 64 (bit_or s set.trues) set.falses f os fs
-        ∙ ap₂ (λ x y. x && not y) (bit_of_or s set.trues f ∙ ap (λ b. bit s f || b) (names f true)) (names f false)
-        ∙ put_said (numbers f) (bit s f))
-        (inside f)
+    bits : (f : ℕ) → bit x f ≡ (put (numbers f) (bit s f) && ltb f facts)
+    bits f = is f ∙ ap (λ b. b && ltb f facts) (ap₂ (λ t u. (bit s f || t) && not u) (names f true) (names f false) ∙ put_said (numbers f) (bit s f))

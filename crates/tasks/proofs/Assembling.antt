@@ -1,19 +1,21 @@
 -- Masks that describe a lawful task mean that task, and keep all that masks keep.
-use Rattle.std.proofs.Common.{◌≡◌, ℕ, zero, suc, ◌<◌, ◌≤◌, Bool, true, false, cond, ◌&&◌, ltb, ◌⊎◌, List, length, ℤ, pos, negsuc, sym, refl, ap, ◌∙◌, subst, ap₂, inl, inr, arith}
-use Rattle.std.proofs.lemmas.Bool.{both_ways, cases_Bool, cases_lt, cond-true, cond-false, le-ltb, lt-ltb}
+use Rattle.std.proofs.Common.{◌≡◌, ℕ, zero, suc, ◌<◌, ◌≤◌, true, false, cond, ltb, ◌⊎◌, List, length, get_or, ℤ, pos, negsuc, sym, refl, ap, ◌∙◌, ap₂, inl, inr, arith}
+use Rattle.std.proofs.lemmas.Bool.{cases_Bool, cases_lt, cond-true, cond-false, false≢true, le-ltb, lt-ltb}
+use Rattle.std.proofs.lemmas.List.{get_or_past}
+use Rattle.sets.proofs.BitLaws.{bit_zero}
 use Rattle.sets.specs.Bits.{bit}
-use Rattle.sets.specs.Sets.{among, has}
+use Rattle.sets.specs.Sets.{ActionSet, among, has, member}
 use Rattle.sets.specs.Signs.{says}
-use Rattle.sets.specs.declared.actions.ActionSet.{ActionSet}
 use Rattle.sets.specs.declared.literals.Literals.{Literals}
 use Rattle.tasks.specs.declared.row.Row.{Row}
-use Rattle.tasks.specs.Described.{Described}
-use Rattle.tasks.specs.Filled.{Filled}
-use Rattle.tasks.specs.Masks.{Own, Removes, makes_at, needs_at, set_at}
+use Rattle.tasks.specs.Masks.{Own, Removes, idle, makes_at, needs_at, row_at, set_at}
 use Rattle.tasks.specs.Meaning.{Meaning, Lawful, Three, value}
 use Rattle.tasks.specs.Rows.{Names, Single, Under, cell, starts}
 use Rattle.tasks.specs.Layers.{usable_below}
-use Rattle.tasks.proofs.Rowing.{names_makes, names_needs, names_single, names_under}
+use Rattle.tasks.specs.States.{put, start_state}
+use Rattle.tasks.specs.Tabling.{two_put}
+use Rattle.tasks.proofs.Packing.{bit_packed}
+use Rattle.tasks.proofs.Rowing.{NamesRow, names_single, names_under, rows_named}
 
 -- meanings that answer alike are one
 pub one_meaning : (m n : Meaning) → m.facts ≡ n.facts → m.actions ≡ n.actions → ((a : ℕ) → m.usable a ≡ n.usable a)
@@ -33,12 +35,22 @@ pub cell_number : (numbers : ℕ → ℤ) (set : Literals) → Names numbers set
 cell_number numbers set names f three =
     ap₂ (λ t u. cond t (pos 1) (cond u (negsuc 0) (pos 0))) (names f true) (names f false) ∙ number_back (numbers f) three
 
+-- The counts, sets, rows and start say what the task means.
+pub record Described (facts actions : ℕ) (usable : ActionSet) (rows : List Row) (start : ℕ) (goals : Literals) (m : Meaning) : Type 0 where
+  pub lawful : Lawful m
+  pub facts_are : facts ≡ m.facts
+  pub actions_are : actions ≡ m.actions
+  pub usable_are : (a : ℕ) → among usable a ≡ m.usable a
+  pub rows_are : (a : ℕ) → NamesRow m a (row_at rows a)
+  pub start_is : (f : ℕ) → f < m.facts → value (bit start f) ≡ m.start f
+  pub goals_are : Names m.goal goals
+
 module _ (facts actions : ℕ) (usable : ActionSet) (rows : List Row) (start : ℕ) (goals : Literals) (m : Meaning) (d : Described facts actions usable rows start goals m) where
   needs_named : (a : ℕ) → Names (m.needs a) (needs_at rows a)
-  needs_named = names_needs m d.lawful actions rows (let e = d.actions_are in omega arith) d.rows_are
+  needs_named a = (d.rows_are a).0
 
   makes_named : (a : ℕ) → Names (m.makes a) (makes_at rows a)
-  makes_named = names_makes m d.lawful actions rows (let e = d.actions_are in omega arith) d.rows_are
+  makes_named a = (d.rows_are a).1
 
   pub some : 1 ≤ facts
   some = let e = d.facts_are in let h = d.lawful.facts_some in omega arith
@@ -67,14 +79,17 @@ module _ (facts actions : ℕ) (usable : ActionSet) (rows : List Row) (start : �
   pub makes_once : (a : ℕ) → Single (makes_at rows a)
   makes_once a = names_single facts (m.makes a) (makes_at rows a) (makes_named a)
 
-  owned : (sets : ℕ → Literals) → ((a f : ℕ) (v : Bool) → actions ≤ a → has (sets a) f v ≡ false) → Own actions sets
-  owned sets rest a f v e = elim (cases_lt a actions) [ inl l ↦ l | inr l ↦ absurd (both_ways (has (sets a) f v) (rest a f v l) e) ]
+  owned : (sets : ℕ → Literals) (numbers : ℕ → ℕ → ℤ) → ((a : ℕ) → Names (numbers a) (sets a)) → ((a f : ℕ) → m.actions ≤ a → numbers a f ≡ pos 0) → Own actions sets
+  owned sets numbers named past a f v e = elim (cases_lt a actions) [
+    | inl l ↦ l
+    | inr l ↦ let h : m.actions ≤ a = let q = d.actions_are in omega arith in absurd (false≢true (sym (ap (λ z. says z v) (past a f h)) ∙ sym (named a f v) ∙ e))
+  ]
 
   pub needing : Own actions (needs_at rows)
-  needing = owned (needs_at rows) d.rows_are.needs_rest
+  needing = owned (needs_at rows) m.needs needs_named d.lawful.needs_past_action
 
   pub making : Own actions (makes_at rows)
-  making = owned (makes_at rows) d.rows_are.makes_rest
+  making = owned (makes_at rows) m.makes makes_named d.lawful.makes_past_action
 
   pub aimed : Under facts goals
   aimed = names_under facts m.goal goals d.goals_are (past_facts m.goal d.lawful.goal_past)
@@ -82,10 +97,13 @@ module _ (facts actions : ℕ) (usable : ActionSet) (rows : List Row) (start : �
   pub aims_once : Single goals
   aims_once = names_single facts m.goal goals d.goals_are
 
-  pub removes : (sets : List ActionSet) → ((f a : ℕ) → among (set_at sets f) a ≡ (ltb f 64 && has (makes_at rows a) f false)) → Removes rows sets
-  removes sets is f a = is f a ∙ elim (cases_lt f 64) [
-    | inl l ↦ ap (λ b. b && has (makes_at rows a) f false) (lt-ltb f 64 l)
-    | inr l ↦ ap (λ b. b && has (makes_at rows a) f false) (le-ltb f 64 l) ∙ sym (none l (cases_Bool (has (makes_at rows a) f false)))
+  pub removes : (sets : List ActionSet) → length sets ≡ 64 → ((f a : ℕ) → f < 64 → among (set_at sets f) a ≡ has (makes_at rows a) f false) → Removes rows sets
+  unfolding set_at member
+  removes sets long made_of f a = elim (cases_lt f 64) [
+    | inl l ↦ made_of f a l
+    | inr l ↦
+        let past : length sets ≤ f = omega arith in
+        ap (λ (s : ActionSet). among s a) (get_or_past sets f (record { bits = 0 }) past) ∙ bit_zero a ∙ sym (none l (cases_Bool (has (makes_at rows a) f false)))
   ]
     where
       none : 64 ≤ f → (has (makes_at rows a) f false ≡ true) ⊎ (has (makes_at rows a) f false ≡ false) → has (makes_at rows a) f false ≡ false
@@ -94,7 +112,7 @@ module _ (facts actions : ℕ) (usable : ActionSet) (rows : List Row) (start : �
 
   start_number : (f : ℕ) → starts facts start f ≡ m.start f
   start_number f = elim (cases_lt f facts) [
-    | inl l ↦ cond-true (ltb f facts) (value (bit start f)) (pos 0) (lt-ltb f facts l) ∙ d.start_is f l
+    | inl l ↦ cond-true (ltb f facts) (value (bit start f)) (pos 0) (lt-ltb f facts l) ∙ d.start_is f (let e = d.facts_are in omega arith)
     | inr l ↦ cond-false (ltb f facts) (value (bit start f)) (pos 0) (le-ltb f facts l) ∙ sym (past_facts m.start d.lawful.start_past f l)
   ]
 
@@ -107,17 +125,16 @@ module _ (facts actions : ℕ) (usable : ActionSet) (rows : List Row) (start : �
       start_number
       (λ f. cell_number m.goal goals d.goals_are f (d.lawful.goal_three f))
 
--- what describes a lawful task, by its start state
+-- what describes a lawful task, by its rows and its start state
 pub described : (m : Meaning) → Lawful m → (facts actions : ℕ) (usable : ActionSet) (rows : List Row) (start : ℕ) (goals : Literals)
-    → facts ≡ m.facts → actions ≡ m.actions → ((a : ℕ) → among usable a ≡ m.usable a) → length rows ≡ 128 → Filled m.needs m.makes m.actions rows
-    → ((f : ℕ) → f < m.facts → value (bit start f) ≡ m.start f) → Names m.goal goals → Described facts actions usable rows start goals m
-described m law facts actions usable rows start goals fe ae used long filled from aims = record {
+    → facts ≡ m.facts → actions ≡ m.actions → ((a : ℕ) → among usable a ≡ m.usable a) → length rows ≡ 128 → ((a : ℕ) → a < 128 → NamesRow m a (get_or rows a idle))
+    → start ≡ start_state m → Names m.goal goals → Described facts actions usable rows start goals m
+described m law facts actions usable rows start goals fe ae used long made from aims = record {
   lawful = law;
   facts_are = fe;
   actions_are = ae;
   usable_are = used;
-  rows_long = long;
-  rows_are = subst (λ (n : ℕ). Filled m.needs m.makes n rows) (sym ae) filled;
-  start_is = λ f l. from f (omega arith);
+  rows_are = rows_named m law rows long made;
+  start_is = λ f l. ap (λ x. value (bit x f)) from ∙ ap value (bit_packed (λ g. put (m.start g) false) m.facts f l) ∙ two_put (m.start f) (law.start_two f l);
   goals_are = aims;
 }

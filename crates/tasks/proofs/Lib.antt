@@ -1,9 +1,7 @@
 pub mod Packing
-pub mod Gathering
-pub mod Copies
+pub mod Making
 pub mod Rowing
 pub mod Assembling
-pub mod Tabling
 pub mod Starting
 pub mod Acting
 pub mod Listing

@@ -3,11 +3,10 @@ pub mod States
 pub mod Rows
 pub mod Bundle
 pub mod Refusals
+pub mod Literals
 pub mod Independence
 pub mod Masks
 pub mod Masked
-pub mod Filled
-pub mod Described
 pub mod Tables
 pub mod Tabled
 pub mod Bans
@@ -15,4 +14,5 @@ pub mod Banned
 pub mod Restarts
 pub mod Restarted
 pub mod Masking
+pub mod Tabling
 pub mod Layers

@@ -1,13 +1,16 @@
 -- A task as bit masks.
 use Rattle.std.specs.Prelude.{◌≡◌, ℕ, ◌<◌, Bool, true, false, List, slice_index_or}
-use Rattle.sets.specs.Sets.{has, among}
-use Rattle.sets.specs.declared.actions.ActionSet.{ActionSet}
+use Rattle.sets.specs.Sets.{ActionSet, has, among}
 use Rattle.sets.specs.declared.literals.Literals.{Literals}
 use Rattle.tasks.specs.declared.row.Row.{Row}
 
+-- No literals.
+abbrev pub nothing : Literals
+nothing = record { trues = record { bits = 0 }; falses = record { bits = 0 } }
+
 -- An action that needs and makes nothing.
 abbrev pub idle : Row
-idle = record { needs = record { trues = 0; falses = 0 }; makes = record { trues = 0; falses = 0 } }
+idle = record { needs = nothing; makes = nothing }
 
 -- The row of an action; past the table's end an idle one.
 unfoldable pub row_at : List Row → ℕ → Row

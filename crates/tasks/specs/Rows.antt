@@ -1,5 +1,5 @@
 -- The numbers 1, 0 and -1 of a task as sets of literals.
-use Rattle.std.specs.Prelude.{◌≡◌, ℕ, ◌<◌, Bool, true, false, cond, ℤ, pos, negsuc, nat_lt}
+use Rattle.std.specs.Prelude.{◌≡◌, ℕ, ◌<◌, Bool, true, false, cond, ◌&&◌, ℤ, pos, negsuc, nat_lt}
 use Rattle.sets.specs.declared.literals.Literals.{Literals}
 use Rattle.sets.specs.Bits.{bit}
 use Rattle.sets.specs.Sets.{has}
@@ -9,6 +9,14 @@ use Rattle.tasks.specs.Meaning.{value}
 -- The set has exactly the literals that the numbers say.
 abbrev pub Names : (ℕ → ℤ) → Literals → Type 0
 Names numbers set = (f : ℕ) (v : Bool) → has set f v ≡ says (numbers f) v
+
+-- The set has exactly the literals that the numbers of the facts below the limit say.
+abbrev pub NamesBelow : ℕ → (ℕ → ℤ) → Literals → Type 0
+NamesBelow facts numbers set = (f : ℕ) (v : Bool) → has set f v ≡ (nat_lt f facts && says (numbers f) v)
+
+-- Each answer for a fact below the limit is the fact's number.
+abbrev pub Answers : (ℕ → ℤ → Type 0) → ℕ → (ℕ → ℤ) → Type 0
+Answers answer facts numbers = (f : ℕ) (z : ℤ) → f < facts → answer f z → z ≡ numbers f
 
 -- The number that a set of literals has for a fact.
 abbrev pub cell : Literals → ℕ → ℤ

@@ -1,5 +1,5 @@
 -- What four tables of cells mean, and when they mean a task.
-use Rattle.std.specs.Prelude.{ℕ, ◌+◌, ◌*◌, ◌<◌, ◌≤◌, cond, List, length, ℤ, pos, nat_lt, slice_index_or}
+use Rattle.std.specs.Prelude.{ℕ, ◌+◌, ◌*◌, ◌<◌, ◌≤◌, cond, List, length, ℤ, pos, nat_lt, slice_index_or, unsigned_abs}
 use Rattle.tasks.specs.Meaning.{Meaning, Three, Two}
 
 -- 1 to 64 facts and at most 128 actions.
@@ -18,6 +18,10 @@ Threes n cells = (i : ℕ) → i < n → Three (slice_index_or cells i (pos 0))
 -- The first n cells are 1 or -1.
 abbrev pub Twos : ℕ → List ℤ → Type 0
 Twos n cells = (i : ℕ) → i < n → Two (slice_index_or cells i (pos 0))
+
+-- The first n cells are 1, -1 or, if the least size is 0, also 0.
+abbrev pub Signs : ℕ → ℕ → List ℤ → Type 0
+Signs least n cells = (i : ℕ) → i < n → (least ≤ unsigned_abs (slice_index_or cells i (pos 0))) × (unsigned_abs (slice_index_or cells i (pos 0)) ≤ 1)
 
 -- The cells that are read are in their ranges; later ones are ignored.
 abbrev pub Ranges : ℕ → ℕ → List ℤ → List ℤ → List ℤ → List ℤ → Type 0

@@ -1,15 +1,13 @@
 //! A task without some of its actions.
-ghost use Rattle.std.specs.Prelude.{◌≡◌, ℕ, ◌≤◌, not, ◌&&◌, MatchOption};
+ghost use Rattle.std.specs.Prelude.{not, ◌&&◌};
 ghost use Rattle.sets.specs.Sets.{among};
 ghost use Rattle.tasks.specs.Banned.{Banned};
-ghost use Rattle.tasks.specs.Bans.{AllBelow, listed};
 ghost use Rattle.tasks.specs.Layers.{banned_lawful};
 
 use crate::refusal::Refusal;
 use crate::row::Row;
 use crate::task::Task;
-use sets::actions::ActionSet;
-use sets::literals::Literals;
+use sets::{ActionSet, Literals};
 
 /// A task some of whose actions are banned: they are not usable, and all else is as in the task below.
 #[derive(Drop)]
@@ -23,13 +21,16 @@ impl<T: Task> Ban<T> {
     pub fn new(below: T, out: &[usize]) -> Result<Ban<T>, (Refusal, T)>
         ensures { Banned T.Task below out.now result }
     {
-        match gathered(out, below.actions()) {
-            Some(banned) => Ok(Ban { below, banned }),
-            None => Err((Refusal::Action, below)),
+        let actions = below.actions();
+        if out.iter().any(|a| *a >= actions) {
+            return Err((Refusal::Action, below));
         }
+        let banned = out.iter().fold(ActionSet::none(), |set, a| set.with(*a));
+        Ok(Ban { below, banned })
     }
 }
 
+// Stays a list of answers passed on: the language has no delegation, and the default methods would ask fact by fact.
 impl<T: Task> Task for Ban<T> {
     ghost facts = { λ b. T.Task.facts b.below };
 
@@ -90,20 +91,4 @@ impl<T: Task> Task for Ban<T> {
     fn start_state(&self) -> u64 {
         self.below.start_state()
     }
-}
-
-// The set of the listed actions, unless one is not below `limit`.
-fn gathered(items: &[usize], limit: usize) -> Option<ActionSet>
-    requires { limit ≤ 128 }
-    ensures { MatchOption result (AllBelow limit items.now → ⊥)
-        (λ set. AllBelow limit items.now × ((a : ℕ) → among set a ≡ listed items.now a)) }
-{
-    let mut set = ActionSet::none();
-    for item in items {
-        if *item >= limit {
-            return None;
-        }
-        set = set.with(*item as u8);
-    }
-    Some(set)
 }

@@ -5,7 +5,7 @@ ghost use Rattle.tasks.specs.Bundle.{meaning};
 ghost use Rattle.tasks.specs.Independence.{Independent};
 
 use crate::task::Task;
-use sets::literals::Literals;
+use sets::Literals;
 
 /// Whether neither action makes, with either sign, a fact that the other needs; no for a number past the actions.
 pub fn independent<T: Task>(task: &T, a: usize, b: usize) -> bool
@@ -16,15 +16,14 @@ pub fn independent<T: Task>(task: &T, a: usize, b: usize) -> bool
     }
     let one = task.row(a);
     let other = task.row(b);
-    if !apart(one.makes, other.needs) {
-        return false;
-    }
-    apart(other.makes, one.needs)
+    apart(one.makes, other.needs) && apart(other.makes, one.needs)
 }
 
 // Whether no fact is named, with either sign, by both sets.
 fn apart(x: Literals, y: Literals) -> bool
     ensures { Decides result ((f : ℕ) (v w : Bool) → has x f v ≡ true → has y f w ≢ true) }
 {
-    (x.trues | x.falses) & (y.trues | y.falses) == 0
+    let these = x.trues.union(x.falses);
+    let those = y.trues.union(y.falses);
+    these.common(those).is_empty()
 }

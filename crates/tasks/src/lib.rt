@@ -4,17 +4,15 @@
 #![tactic(auto)]
 
 pub mod ban;
-mod cells;
 pub mod independence;
 pub mod literal;
 pub mod masks;
 pub mod refusal;
 pub mod restart;
 pub mod row;
-mod rows;
 mod start;
 pub mod states;
 pub mod task;
 
-pub use masks::snapshot::Snapshot;
+pub use masks::Snapshot;
 pub use masks::tables::TableTask;

@@ -1,7 +1,9 @@
 //! Literals as signed numbers.
-ghost use Rattle.std.specs.Prelude.{◌≡◌, ◌+◌, ◌≤◌, true, MatchOption, unsigned_abs};
+ghost use Rattle.std.specs.Prelude.{◌≡◌, ◌+◌, ◌≤◌, true, unsigned_abs};
 ghost use Rattle.sets.specs.Signs.{says};
-ghost use Rattle.tasks.specs.Meaning.{opposite};
+
+use crate::refusal::Refusal;
+use std::ops::Neg;
 
 /// A literal: plus the fact's number and one says that the fact is true, minus the same that it is false.
 #[derive(Clone, Copy, PartialEq, Eq, Debug)]
@@ -12,16 +14,6 @@ pub struct Literal {
 }
 
 impl Literal {
-    /// The literal of a number from 1 to 64 or from -1 to -64.
-    pub fn new(number: i8) -> Option<Literal>
-        ensures { MatchOption result ((1 ≤ unsigned_abs number) × (unsigned_abs number ≤ 64) → ⊥) (λ l. l.number ≡ number) }
-    {
-        if number == 0 || number > 64 || number < -64 {
-            return None;
-        }
-        Some(Literal { number })
-    }
-
     /// The fact.
     pub fn fact(self) -> usize
         ensures { result + 1 ≡ unsigned_abs self.number }
@@ -35,11 +27,33 @@ impl Literal {
     {
         self.number > 0
     }
+}
 
-    /// The opposite of a literal is its negation.
-    pub fn opposite(self) -> Literal
-        ensures { result.number ≡ opposite self.number }
-    {
+/// The literal of a number from 1 to 64 or from -1 to -64.
+impl TryFrom<i8> for Literal {
+    ghost use Rattle.tasks.specs.Literals.{Reads};
+
+    type Error = Refusal;
+
+    ghost try_from_gives = { Reads };
+
+    fn try_from(number: i8) -> Result<Literal, Refusal> {
+        if number == 0 || !(-64..=64).contains(&number) {
+            return Err(Refusal::Literal);
+        }
+        Ok(Literal { number })
+    }
+}
+
+/// The opposite of a literal is its negation.
+impl Neg for Literal {
+    ghost use Rattle.tasks.specs.Literals.{IsOpposite};
+
+    type Output = Literal;
+
+    ghost neg_gives = { IsOpposite };
+
+    fn neg(self) -> Literal {
         Literal {
             number: -self.number,
         }

@@ -1,5 +1,5 @@
 //! A task that starts from what was seen.
-ghost use Rattle.std.specs.Prelude.{◌≡◌, ℕ, ◌+◌, ◌≤◌, Bool, true, MatchOption, unsigned_abs};
+ghost use Rattle.std.specs.Prelude.{◌≡◌, ℕ, ◌+◌, ◌≤◌, Bool, true, MatchResult, unsigned_abs};
 ghost use Rattle.sets.specs.Bits.{bit};
 ghost use Rattle.sets.specs.Sets.{has};
 ghost use Rattle.sets.specs.Signs.{says};
@@ -13,8 +13,7 @@ use crate::refusal::Refusal;
 use crate::row::Row;
 use crate::start;
 use crate::task::Task;
-use sets::actions::ActionSet;
-use sets::literals::Literals;
+use sets::{ActionSet, Literals};
 
 /// A task that starts from what was seen: a listed fact starts as listed, an unlisted one false; all else is as below.
 #[derive(Drop)]
@@ -29,16 +28,18 @@ impl<T: Task> Restart<T> {
     pub fn new(below: T, literals: &[i8]) -> Result<Restart<T>, (Refusal, T)>
         ensures { Restarted T.Task below literals.now result }
     {
+        // Stays a match: either side takes the task, which two closures could not share.
         match gathered(literals, below.facts()) {
-            Some(seen) => Ok(Restart {
+            Ok(seen) => Ok(Restart {
                 below,
-                truths: seen.trues,
+                truths: seen.trues.bits,
             }),
-            None => Err((Refusal::Literal, below)),
+            Err(refusal) => Err((refusal, below)),
         }
     }
 }
 
+// Stays a list of answers passed on: the language has no delegation, and the default methods would ask fact by fact.
 impl<T: Task> Task for Restart<T> {
     ghost facts = { λ t. T.Task.facts t.below };
 
@@ -102,39 +103,31 @@ impl<T: Task> Task for Restart<T> {
 }
 
 // The listed literals as a set, unless one is 0 or beyond the facts, or a fact is listed twice.
-fn gathered(numbers: &[i8], facts: usize) -> Option<Literals>
+fn gathered(numbers: &[i8], facts: usize) -> Result<Literals, Refusal>
     requires { facts ≤ 64 }
-    ensures { MatchOption result (Within facts numbers.now × Apart numbers.now → ⊥)
-        (λ set. Within facts numbers.now × Apart numbers.now × ((f : ℕ) (v : Bool) → has set f v ≡ seen numbers.now f v)) }
+    ensures { MatchResult result
+        (λ set. Within facts numbers.now × Apart numbers.now × ((f : ℕ) (v : Bool) → has set f v ≡ seen numbers.now f v))
+        (λ e. (e ≡ Refusal.Literal) × (Within facts numbers.now × Apart numbers.now → ⊥)) }
 {
     let mut set = Literals::none();
     for number in numbers {
-        match joined(set, *number, facts) {
-            Some(more) => set = more,
-            None => return None,
-        }
+        set = joined(set, *number, facts)?;
     }
-    Some(set)
+    Ok(set)
 }
 
 // The set with one literal more, unless it is 0 or beyond the facts, or it or its opposite is in the set already.
-fn joined(set: Literals, number: i8, facts: usize) -> Option<Literals>
+fn joined(set: Literals, number: i8, facts: usize) -> Result<Literals, Refusal>
     requires { facts ≤ 64 }
-    ensures { MatchOption result (Fresh facts set number → ⊥) (λ more. Fresh facts set number × Joined set number more) }
+    ensures { MatchResult result
+        (λ more. Fresh facts set number × Joined set number more)
+        (λ e. (e ≡ Refusal.Literal) × (Fresh facts set number → ⊥)) }
 {
-    let Some(literal) = Literal::new(number) else {
-        return None;
-    };
-    if literal.fact() >= facts {
-        return None;
+    let literal = Literal::try_from(number)?;
+    if literal.fact() >= facts || is_in(set, literal) || is_in(set, -literal) {
+        return Err(Refusal::Literal);
     }
-    if is_in(set, literal) {
-        return None;
-    }
-    if is_in(set, literal.opposite()) {
-        return None;
-    }
-    Some(set.with(literal.fact(), number))
+    Ok(set.with(literal.fact(), number))
 }
 
 // Whether the literal is in the set.

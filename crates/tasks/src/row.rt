@@ -2,9 +2,9 @@
 ghost use Rattle.std.specs.Prelude.{◌≡◌, ℕ, Bool, false};
 ghost use Rattle.sets.specs.Sets.{has};
 
-use sets::literals::Literals;
+use sets::Literals;
 
-/// What one action needs and makes: four masks, a fact that is needed or made true or false.
+/// What one action needs and makes: two sets of literals.
 #[derive(Clone, Copy, PartialEq, Eq, Debug)]
 pub struct Row {
     pub needs: Literals,

@@ -6,8 +6,7 @@ ghost use Rattle.tasks.specs.Bundle.{meaning};
 ghost use Rattle.tasks.specs.States.{Applies, GoalsHold, after, start_state};
 
 use crate::task::Task;
-use sets::facts::FactSet;
-use sets::literals::Literals;
+use sets::{FactSet, Literals};
 
 /// The state that the task starts in.
 pub fn start<T: Task>(task: &T) -> u64
@@ -20,10 +19,7 @@ pub fn start<T: Task>(task: &T) -> u64
 pub fn applies<T: Task>(task: &T, state: u64, a: usize) -> bool
     ensures value { Decides result (Applies (meaning T.Task task.now) state a) }
 {
-    if !task.usable(a) {
-        return false;
-    }
-    all_hold(task.row(a).needs, state)
+    task.usable(a) && all_hold(task.row(a).needs, state)
 }
 
 /// The state that the action leaves: what it makes is set, all else stays.
@@ -31,8 +27,9 @@ pub fn after<T: Task>(task: &T, state: u64, a: usize) -> u64
     ensures value { result ≡ after (meaning T.Task task.now) state a }
 {
     let makes = task.row(a).makes;
-    let facts = FactSet::below(task.facts() as u8);
-    (state | makes.trues) & !makes.falses & facts.bits
+    let truths = FactSet { bits: state };
+    let left = truths.union(makes.trues).without(makes.falses);
+    left.common(FactSet::below(task.facts())).bits
 }
 
 /// Whether all goals hold in the state.

@@ -1,13 +1,12 @@
 //! A task is an interface: every question leaves the task unchanged and answers its meaning.
-ghost use Rattle.std.specs.Prelude.{◌≡◌, ℕ, Bool, ℤ};
+ghost use Rattle.std.specs.Prelude.{◌≡◌, ℕ, ◌≤◌, Bool, ℤ};
 ghost use Rattle.sets.specs.Sets.{among};
 ghost use Rattle.tasks.specs.Meaning.{Lawful, bundle};
-ghost use Rattle.tasks.specs.Rows.{Names};
+ghost use Rattle.tasks.specs.Rows.{Answers, Names, NamesBelow};
 ghost use Rattle.tasks.specs.States.{start_state};
 
 use crate::row::Row;
-use sets::actions::ActionSet;
-use sets::literals::Literals;
+use sets::{ActionSet, Literals};
 
 /// A task. Facts and actions are numbered from 0; a number past them is answered 0, or not usable.
 pub trait Task {
@@ -58,24 +57,17 @@ pub trait Task {
         ensures needs { Names (needs self.now a) result.needs }
         ensures makes { Names (makes self.now a) result.makes }
     {
-        let mut needs = Literals::none();
-        let mut makes = Literals::none();
-        for f in 0..self.facts() {
-            needs = needs.with(f, self.needs(a, f));
-            makes = makes.with(f, self.makes(a, f));
+        Row {
+            needs: literals_by(self.facts(), |f| self.needs(a, f)),
+            makes: literals_by(self.facts(), |f| self.makes(a, f)),
         }
-        Row { needs, makes }
     }
 
     /// All the goals.
     fn goals(&self) -> Literals
         ensures { Names (goal self.now) result }
     {
-        let mut goals = Literals::none();
-        for f in 0..self.facts() {
-            goals = goals.with(f, self.goal(f));
-        }
-        goals
+        literals_by(self.facts(), |f| self.goal(f))
     }
 
     /// All usable actions.
@@ -85,7 +77,7 @@ pub trait Task {
         let mut usable = ActionSet::none();
         for a in 0..self.actions() {
             if self.usable(a) {
-                usable = usable.with(a as u8);
+                usable = usable.with(a);
             }
         }
         usable
@@ -95,12 +87,21 @@ pub trait Task {
     fn start_state(&self) -> u64
         ensures { result ≡ start_state (bundle facts actions usable needs makes start goal self.now) }
     {
-        let mut starts = Literals::none();
-        for f in 0..self.facts() {
-            starts = starts.with(f, self.start(f));
-        }
-        starts.trues
+        literals_by(self.facts(), |f| self.start(f)).trues.bits
     }
 
     ghost lawful: { (t : Self) → Lawful (bundle facts actions usable needs makes start goal t) };
+}
+
+// The literals that the numbers of the facts below `facts` say.
+fn literals_by<F: Fn(usize) -> i8>(facts: usize, number: F) -> Literals
+    requires few { facts ≤ 64 }
+    requires callable { F.IsAlwaysCallable number }
+    ensures { (numbers : ℕ → ℤ) → Answers (F.post number) facts numbers → NamesBelow facts numbers result }
+{
+    let mut set = Literals::none();
+    for f in 0..facts {
+        set = set.with(f, number(f));
+    }
+    set
 }

@@ -1,22 +1,16 @@
 -- Each row is computed: the run of its steps, a count or a recall.
-use Rattle.std.proofs.Common.{ℕ, List, [], ◌∷◌, refl, ap}
+use Rattle.std.proofs.Common.{refl}
 use Rattle.sets.specs.Bits.{bit}
 use Rattle.sets.specs.Counts.{count}
 use Rattle.tasks.specs.States.{packed}
 use Rattle.memories.specs.Pairs.{recalls_below}
-use Rattle.memories.specs.Rows.{row, among, keep_row}
-use Rattle.memories.specs.declared.row.Row.{Row}
+use Rattle.memories.specs.Rows.{among, keep_row}
 use Rattle.estimators.specs.Ranges.{all_below, most_below}
 use Rattle.estimators.specs.GoalCounts.{missing_count, gains, goal_count}
 use Rattle.search.specs.Steps.{first_part, put_up, over, settle, lowest_from, lowest, some_below, wide, plan_from, falsifies, distance, better, best_below, first_half, half, earlier, told, below_halves, split, asked, looked, next}
-use Rattle.examples.specs.Ends.{Answers}
 use Rattle.examples.specs.Jobs.{bake_and_copy, copy_from_dry_and_threaded, copy_without_baking, no_way_to_both, nothing_to_do, stay_unthreaded, tied_facts, told_at_the_split}
-use Rattle.examples.proofs.Computing.{recall_rows}
 use Rattle.examples.proofs.Running.{ends}
 use Rattle.examples.proofs.table.worked_examples.Goals as goal
-
-answers : (rows : List Row) (state left : ℕ) → Answers rows state left (recall_rows rows state left)
-answers rows state left x e = ap (λ (r : List Row). recall_rows r state left) e
 
 pub returns : goal.returns
 unfolding bit count packed recalls_below among keep_row all_below most_below missing_count gains goal_count first_part put_up over settle lowest_from lowest some_below wide plan_from falsifies distance better best_below first_half half earlier told below_halves split asked looked next
@@ -35,10 +29,10 @@ returns c = record {
   an_action_gains_one_goal = refl;
   two_actions_are_hopeless = refl;
   three_actions_are_not_hopeless = refl;
-  the_memory_recalls_its_pair = answers (row 0 3 ∷ []) 0 3;
-  the_memory_recalls_less_left = answers (row 0 3 ∷ []) 0 2;
-  the_memory_recalls_no_more_left = answers (row 0 3 ∷ []) 0 4;
-  the_memory_recalls_no_other_state = answers (row 0 3 ∷ []) 1 3;
+  the_memory_recalls_its_pair = refl;
+  the_memory_recalls_less_left = refl;
+  the_memory_recalls_no_more_left = refl;
+  the_memory_recalls_no_other_state = refl;
   thirty_seven_steps_find_no_way_to_both = ends no_way_to_both 4 37 refl;
   eight_steps_break_the_tie = ends tied_facts 4 8 refl;
   six_steps_ask_at_the_split = ends told_at_the_split 4 6 refl;

@@ -1,4 +1,4 @@
-use Rattle.std.proofs.Common.{◌≡◌, ◌-◌, length}
+use Rattle.std.proofs.Common.{◌≡◌, length}
 use Rattle.tasks.specs.Masked.{masked}
 use Rattle.exhaustive.proofs.Passing.{Passed}
 use Rattle.exhaustive.proofs.extend.+extend.Given as goal
@@ -8,4 +8,4 @@ decreases-extend l = length l.plan.now
 
 abbrev pub invariant-loop-a : goal.invariant-loop-a
 invariant-loop-a l =
-    Passed (masked l.task) l.state (length l.initial.plan - 1) l.initial.budget l.budget l.a × (l.plan ≡ l.initial.plan)
+    Passed (masked l.task) l.state (length l.initial.rest) l.initial.budget l.budget l.a × (l.rest ≡ l.initial.rest) × (l.first ≡ l.initial.first)

@@ -1,42 +1,26 @@
-use Rattle.std.proofs.Common.{◌≤◌, length, vec_items, refl, ◌∙◌, subst}
+use Rattle.std.proofs.Common.{refl, ap}
 use Rattle.tasks.specs.Masked.{masked}
-use Rattle.search.specs.declared.fate.Fate.{Fate}
+use Rattle.search.specs.Calls.Keeps.{no_pair}
 use Rattle.search.specs.Entries.{entries_of}
-use Rattle.search.specs.Fates.{StepWithin, effect}
-use Rattle.search.proofs.Applying.{dropped_applied, found_applied, split_applied}
+use Rattle.search.specs.Machines.Stage.{unfinished}
+use Rattle.search.proofs.Applying.{as_fate, dropped_applied}
 use Rattle.search.proofs.apply.apply.Goals as goal
-
-pub push_halves-requires : goal.push_halves-requires
-push_halves-requires g c =
-    let m = masked c.args.snapshot.now in
-    let rest = entries_of (vec_items c.args.stack.now) in
-    record {
-      step = subst (λ (f : Fate). StepWithin f c.args.round) c.in-Split.is c.requires.step;
-      some = c.requires.some;
-      room = subst (λ (f : Fate). length (effect m f c.args.bound c.args.round c.args.from rest).machine.entries ≤ 3841) c.in-Split.is c.requires.room;
-    }
 
 pub returns-in-Dropped : goal.returns-in-Dropped
 returns-in-Dropped g c =
-    record {
-      room = c.go_on.ensures.room ∙ c.settle.ensures.room;
-      value = dropped_applied g.M.Memory.keeps (masked c.args.snapshot.now) c.args.fate c.args.bound c.args.round c.args.from (entries_of (vec_items c.args.stack.now))
-          (entries_of (vec_items c.settle.new.stack)) (entries_of (vec_items c.go_on.new.stack)) c.args.memory.now c.settle.new.memory c.go_on.result
-          c.in-Dropped.is c.settle.ensures.stack c.settle.ensures.kept c.go_on.ensures.value;
-    }
+    let r = c.args.rounds in
+    dropped_applied g.M.Memory.keeps (masked c.args.snapshot.now) c.args.fate r.bound r.round c.args.from (entries_of c.args.stack.now)
+    (entries_of c.settle.new.self) (entries_of c.go_on.new.stack) c.args.memory.now c.settle.new.memory c.go_on.result
+    c.in-Dropped.is c.settle.ensures.stack c.settle.ensures.kept c.go_on.ensures
 
 pub returns-in-Found : goal.returns-in-Found
 returns-in-Found g c =
-    record {
-      room = refl;
-      value = found_applied g.M.Memory.keeps (masked c.args.snapshot.now) c.args.fate c.args.bound c.args.round c.args.from (entries_of (vec_items c.args.stack.now))
-          c.args.memory.now c.in-Found.plan c.in-Found.is;
-    }
+    let r = c.args.rounds in
+    as_fate g.M.Memory.keeps (masked c.args.snapshot.now) c.args.fate _ r.bound r.round c.args.from (entries_of c.args.stack.now) (entries_of c.args.stack.now) c.args.memory.now c.args.memory.now _
+    c.in-Found.is (record { machine = refl; kept = no_pair })
 
 pub returns-in-Split : goal.returns-in-Split
 returns-in-Split g c =
-    record {
-      room = c.push_halves.ensures.room;
-      value = split_applied g.M.Memory.keeps (masked c.args.snapshot.now) c.args.fate c.args.bound c.args.round c.args.from (entries_of (vec_items c.args.stack.now))
-          (entries_of (vec_items c.push_halves.new.stack)) c.args.memory.now c.in-Split.halves c.in-Split.is c.push_halves.ensures.value;
-    }
+    let r = c.args.rounds in
+    as_fate g.M.Memory.keeps (masked c.args.snapshot.now) c.args.fate _ r.bound r.round c.args.from (entries_of c.args.stack.now) (entries_of c.push_halves.new.self) c.args.memory.now c.args.memory.now _
+    c.in-Split.is (record { machine = ap (λ es. record { stage = unfinished; bound = r.bound; round = r.round; entries = es }) c.push_halves.ensures; kept = no_pair })

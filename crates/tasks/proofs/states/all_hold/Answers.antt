@@ -10,8 +10,8 @@ pub returns : goal.returns
 returns c =
     let set = c.args.literals in
     let s = c.args.state in
-    let ts : set.trues < 2 ^ 64 = search rules in
-    let fs : set.falses < 2 ^ 64 = search rules in
+    let ts : set.trues.bits < 2 ^ 64 = search rules in
+    let fs : set.falses.bits < 2 ^ 64 = search rules in
     let shown : (f : ℕ) (v : Bool) → has c.of_state.result f v ≡ (ltb f 64 && is v (bit s f)) = c.of_state.ensures.value in (
       λ e f v there.
           let l = has_below set ts fs f v there in

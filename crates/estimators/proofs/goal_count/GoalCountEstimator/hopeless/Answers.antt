@@ -1,46 +1,31 @@
-use Rattle.std.proofs.Common.{◌≡◌, ◌*◌, true, false, sym, ap, ◌∙◌, mul-zero, arith, below_more}
+use Rattle.std.proofs.Common.{◌≡◌, ℕ, ◌*◌, ◌<◌, ◌≤◌, ◌∙◌, arith, rules, tests}
+use Rattle.std.proofs.lemmas.Iterator.{cases_from_all}
+use Rattle.sets.specs.Counts.{count}
 use Rattle.tasks.specs.Bundle.{meaning}
-use Rattle.estimators.specs.GoalCounts.{gains}
-use Rattle.estimators.proofs.Gaining.{missing_many, gained_many, idle_gain, none_missing, enough, too_few}
+use Rattle.estimators.specs.GoalCounts.{missing_count}
+use Rattle.estimators.proofs.Gaining.{gained_many, judged, missing_many, none_missing, tally}
+use Rattle.estimators.proofs.Listed.{members_yielded}
 use Rattle.estimators.proofs.goal_count.GoalCountEstimator.hopeless.Goals as goal
-use Rattle.estimators.proofs.goal_count.GoalCountEstimator.hopeless.Goals.{then-contains+else-left-gain, else-contains}
 
 pub returns-then-many-eq0 : goal.returns-then-many-eq0
 returns-then-many-eq0 g c =
     let t = meaning g.T.Task c.args.task.now in
     let law = g.met.T.Task.lawful c.args.task.now in
-    let many = c.size-many.ensures.value ∙ missing_many t law c.args.state c.missing_goals-missing.result c.missing_goals-missing.ensures.value in
-    record { value = none_missing t c.args.state c.args.left (omega arith) }
-
-pub returns-then-left-gain : goal.returns-then-left-gain
-returns-then-left-gain g c =
-    let t = meaning g.T.Task c.args.task.now in
-    let law = g.met.T.Task.lawful c.args.task.now in
-    let many = c.size-many.ensures.value ∙ missing_many t law c.args.state c.missing_goals-missing.result c.missing_goals-missing.ensures.value in
-    let can : t.usable c.loop-a.a ≡ true = sym (c.usable_actions-usable.ensures c.loop-a.a) ∙ sym c.contains.ensures.value ∙ c.if-contains.true in
-    let gain : c.size-gain.result ≡ gains t c.args.state c.loop-a.a = c.size-gain.ensures.value
-    ∙ gained_many t law c.args.state c.missing_goals-missing.result c.missing_goals-missing.ensures.value c.loop-a.a c.row.result.makes c.common.result c.row.ensures.makes c.common.ensures.value can in
-    record { value = enough t c.args.state c.args.left c.loop-a.a (omega (arith, c.actions-a-end.ensures)) (omega (arith, ap (λ x. c.args.left * x) gain)) }
-
-pub loop-a-preserved : goal.loop-a-preserved
-loop-a-preserved g c =
-    let t = meaning g.T.Task c.args.task.now in
-    let law = g.met.T.Task.lawful c.args.task.now in
-    let many = c.size-many.ensures.value ∙ missing_many t law c.args.state c.missing_goals-missing.result c.missing_goals-missing.ensures.value in
-    below_more _ _ c.loop-a.invariant (elim c.if-contains.branch [
-      | then-contains+else-left-gain w ↦
-          let can : t.usable c.loop-a.a ≡ true = sym (c.usable_actions-usable.ensures c.loop-a.a) ∙ sym c.contains.ensures.value ∙ w.if-contains.true in
-          let gain : w.size-gain.result ≡ gains t c.args.state c.loop-a.a = w.size-gain.ensures.value
-          ∙ gained_many t law c.args.state c.missing_goals-missing.result c.missing_goals-missing.ensures.value c.loop-a.a w.row.result.makes w.common.result w.row.ensures.makes w.common.ensures.value can in
-          omega (arith, ap (λ x. c.args.left * x) gain, w.if-left-gain.false)
-      | else-contains w ↦
-          let cannot : t.usable c.loop-a.a ≡ false = sym (c.usable_actions-usable.ensures c.loop-a.a) ∙ sym c.contains.ensures.value ∙ w.if-contains.false in
-          omega (arith, ap (λ x. c.args.left * x) (idle_gain t c.args.state c.loop-a.a cannot), mul-zero c.args.left)
-    ])
+    let many = c.size.ensures.value ∙ missing_many t law c.args.state c.missing_goals-missing.result c.missing_goals-missing.ensures.value in
+    record { value = none_missing t c.args.state c.args.left (omega (arith, c.from-many.ensures)) }
 
 pub returns : goal.returns
 returns g c =
     let t = meaning g.T.Task c.args.task.now in
     let law = g.met.T.Task.lawful c.args.task.now in
-    let many = c.size-many.ensures.value ∙ missing_many t law c.args.state c.missing_goals-missing.result c.missing_goals-missing.ensures.value in
-    record { value = too_few t c.args.state c.args.left (omega arith) (λ a lt. c.loop-a.invariant a (omega (arith, c.actions-a-end.ensures))) }
+    let missing = c.missing_goals-missing.result in
+    let many = c.from-many.result in
+    let is_many : many ≡ missing_count t c.args.state = c.from-many.ensures ∙ c.size.ensures.value ∙ missing_many t law c.args.state missing c.missing_goals-missing.ensures.value in
+    let usable = c.usable_actions.result in
+    let gain : ℕ → ℕ = λ a. count (tally t a missing) 64 in
+    let cases = cases_from_all _ _ c.all.result (λ (a : ℕ). c.args.left * gain a < many) (λ (a : ℕ). many ≤ c.args.left * gain a) c.all.ensures.ran
+    (members_yielded usable c.into_iter-usable.result c.into_iter-usable.ensures.into_iter_gives) (λ x q k. search (rules, tests)) (λ x q k. search (rules, tests)) in
+    record {
+      value = judged t law c.args.state c.args.left many is_many (omega arith) usable c.usable_actions.ensures c.all.result gain
+          (gained_many t law c.args.state missing c.missing_goals-missing.ensures.value) cases;
+    }

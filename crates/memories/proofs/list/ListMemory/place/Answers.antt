@@ -1,33 +1,38 @@
-use Rattle.std.proofs.Common.{ℕ, ◌-◌, get_or, sym, subst, arith}
-use Rattle.memories.specs.Chains.{state_at}
-use Rattle.memories.proofs.Chaining.{OnChain, from_head, along, found, nowhere}
-use Rattle.memories.proofs.Listing.{chained, fits}
+use Rattle.std.proofs.Common.{sym}
+use Rattle.memories.proofs.Finding.{position-first, position-absent}
+use Rattle.memories.proofs.Chaining.{walks_from_head, walks_within, walks_on, walks_down, walks_to_first, walks_to_end}
 use Rattle.memories.proofs.list.ListMemory.place.Goals as goal
 
-pub loop-upto-init : goal.loop-upto-init
-loop-upto-init c =
-    let m = c.args.self.now in
-    subst (λ (h : ℕ). OnChain (state_at m.rows) m.count c.args.state (get_or m.heads h 0)) (sym c.slot_of-slot.ensures.value) (from_head m.rows m.count m.heads m.links (fits m) (chained m) c.args.state)
+pub loop-next-init : goal.loop-next-init
+loop-next-init c =
+    let m = c.self.inside in
+    rw c.slot_of.ensures.value (walks_from_head m.rows.items m.heads m.links c.self.invariant c.args.state (rw c.slot_of.ensures.value at c.slot_of.ensures.within))
 
-pub loop-upto-preserved : goal.loop-upto-preserved
-unfolding state_at
-loop-upto-preserved c =
-    let m = c.args.self.now in
-    along m.rows m.count m.heads m.links (fits m) (chained m) c.args.state c.loop-upto.upto c.loop-upto-test.true c.loop-upto.invariant c.if-self-at.false
+pub bounds-deref-at : goal.bounds-deref-at
+bounds-deref-at c =
+    let m = c.self.inside in
+    rw (c.deref.ensures.0, c.from-at.ensures) (walks_within m.rows.items m.heads m.links c.self.invariant c.args.state c.in-Some.at (rw c.in-Some.is at c.loop-next.invariant))
 
-pub returns-then-self-at : goal.returns-then-self-at
-unfolding state_at
-returns-then-self-at c =
-    let m = c.args.self.now in
-    record {
-      value = found m.rows m.count m.heads m.links (fits m) (chained m) c.args.state (c.loop-upto.upto - 1) (omega (arith, c.loop-upto.invariant.0)) c.if-self-at.true;
-      within = omega (arith, c.loop-upto.invariant.0);
-    }
+pub returns-then-deref-at : goal.returns-then-deref-at
+returns-then-deref-at c =
+    let m = c.self.inside in
+    let here = rw (c.deref.ensures.0, c.from-at.ensures) at c.if-deref-at.true in
+    rw (c.from-at.ensures, ← c.self.view_is)
+    (sym (position-first m.rows.items c.args.state c.in-Some.at (walks_to_first m.rows.items m.heads m.links c.self.invariant c.args.state c.in-Some.at (rw c.in-Some.is at c.loop-next.invariant) here)))
+
+pub loop-next-smaller : goal.loop-next-smaller
+loop-next-smaller c =
+    let m = c.self.inside in
+    rw (c.in-Some.is, c.from-at.ensures) (walks_down m.rows.items m.heads m.links c.self.invariant c.args.state c.in-Some.at (rw c.in-Some.is at c.loop-next.invariant))
+
+pub loop-next-preserved : goal.loop-next-preserved
+loop-next-preserved c =
+    let m = c.self.inside in
+    let other = rw (c.deref.ensures.0, c.from-at.ensures) at c.if-deref-at.false in
+    rw c.from-at.ensures (walks_on m.rows.items m.heads m.links c.self.invariant c.args.state c.in-Some.at (rw c.in-Some.is at c.loop-next.invariant) other)
 
 pub returns : goal.returns
 returns c =
-    let m = c.args.self.now in
-    record {
-      value = nowhere m.rows m.count m.heads m.links (fits m) (chained m) c.args.state (λ i lt e. let before = c.loop-upto.invariant.2 i lt e in omega arith);
-      within = omega arith;
-    }
+    let m = c.self.inside in
+    let over = rw c.in_default.is at c.loop-next.invariant in
+    rw (← c.self.view_is) (sym (position-absent m.rows.items c.args.state (walks_to_end m.rows.items m.heads m.links c.self.invariant c.args.state over)))

@@ -1,4 +1,4 @@
-use Rattle.std.proofs.Common.{Ok, sym, refl, subst}
+use Rattle.std.proofs.Common.{Ok, refl, subst}
 use Rattle.memories.specs.Pairs.{recalls}
 use Rattle.tasks.specs.Bundle.{meaning}
 use Rattle.tasks.specs.Meaning.{Meaning}
@@ -17,9 +17,9 @@ returns g c =
     let x = c.args.memory.now in
     let S' = machine_of c.go.new.self in
     let x' = c.go.new.memory in
-    let gone = subst (λ (t : Meaning). Gone g.row.M.Denot (λ y. recalls (g.M.Memory.has y)) g.M.Memory.keeps t (hopeless t) c.args.amount S x S' x' c.go.result) c.of-snapshot.ensures.value c.go.ensures in
+    let gone = subst (λ (t : Meaning). Gone g.M.Memory g.E.Estimator t c.args.estimator.now c.args.amount S x S' x' c.go.result) c.of-snapshot.ensures.value c.go.ensures in
     let does : Advanced g.row.M.Denot (λ y. recalls (g.M.Memory.has y)) g.M.Memory.keeps m (hopeless m) c.args.amount S x S' x' c.go.result = record {
-      allowed = sym c.in_default.ensures.value;
+      allowed = c.in_ok-admit.ensures;
       steps = gone.steps;
       few = gone.few;
       all = gone.all;

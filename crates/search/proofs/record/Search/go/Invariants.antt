@@ -1,4 +1,3 @@
-use Rattle.std.proofs.Common.{◌-◌, ◌≤◌}
 use Rattle.memories.specs.Pairs.{recalls}
 use Rattle.tasks.specs.Masked.{masked}
 use Rattle.search.specs.Calls.{Steps}
@@ -7,8 +6,4 @@ use Rattle.search.proofs.record.Search.go.Given as goal
 
 abbrev pub invariant-loop-made : goal.invariant-loop-made
 invariant-loop-made g l =
-    (l.made ≤ l.amount)
-    × Steps g.row.M.Denot (λ x. recalls (g.M.Memory.has x)) g.M.Memory.keeps (masked l.snapshot) (g.E.Estimator.hopeless l.estimator (masked l.snapshot)) l.made (machine_of l.initial.self) l.initial.memory (machine_of l.self) l.memory
-
-abbrev pub decreases-loop-made : goal.decreases-loop-made
-decreases-loop-made g l = l.amount - l.made
+    Steps g.row.M.Denot (λ x. recalls (g.M.Memory.has x)) g.M.Memory.keeps (masked l.snapshot) (g.E.Estimator.hopeless l.estimator (masked l.snapshot)) l.made (machine_of l.initial.self) l.initial.memory (machine_of l.self) l.memory

@@ -1,4 +1,4 @@
-use Rattle.std.proofs.Common.{◌+◌, Ok, sym, ap, ◌∙◌}
+use Rattle.std.proofs.Common.{◌+◌, Ok, ap, ◌∙◌}
 use Rattle.tasks.specs.Bundle.{meaning}
 use Rattle.tasks.specs.Meaning.{Meaning}
 use Rattle.search.specs.Calls.{Lifted}
@@ -13,7 +13,7 @@ returns g c =
     let S = machine_of c.args.self.now in
     let S' = machine_of c.put_up.new.self in
     let does : Lifted m c.args.bound S S' = record {
-      allowed = sym c.in_default.ensures.value;
-      search = c.put_up.ensures ∙ ap (λ (t : Meaning). put_up t c.args.bound (c.args.self.now.bound + 1)) c.of.ensures.value;
+      allowed = c.in_ok-admit.ensures;
+      search = c.put_up.ensures ∙ ap (λ (t : Meaning). put_up t c.args.bound (c.args.self.now.rounds.bound + 1)) c.of.ensures.value;
     } in
     record { does = does; run = λ P h n run. lifts run c.args.bound (Ok tt) does }

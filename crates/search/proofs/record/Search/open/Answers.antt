@@ -1,4 +1,4 @@
-use Rattle.std.proofs.Common.{Ok, sym, ap, ◌∙◌}
+use Rattle.std.proofs.Common.{Ok, ap, ◌∙◌}
 use Rattle.tasks.specs.Bundle.{meaning}
 use Rattle.tasks.specs.Meaning.{Meaning}
 use Rattle.search.specs.Calls.{Opened}
@@ -16,7 +16,7 @@ returns g c =
     let S' = machine_of c.put_up.new.self in
     let x' = c.empty.new.self in
     let does : Opened g.row.M.Denot g.M.Memory.empties m c.args.bound S x S' x' = record {
-      allowed = sym c.in_default.ensures.value;
+      allowed = c.in_ok-admit.ensures;
       search = c.put_up.ensures ∙ ap (λ (t : Meaning). put_up t c.args.bound 0) c.of.ensures.value;
       emptied = c.empty.ensures.after;
     } in

@@ -1,39 +1,36 @@
-use Rattle.std.proofs.Common.{List, [], ◌∷◌, ◌++◌, None, vec_items, refl, ap, ◌∙◌, arith}
-use Rattle.filter.specs.Structures.{Structure}
+use Rattle.std.proofs.Common.{◌≡◌, ℕ, List, [], ◌∷◌, None, sym, ap, ◌∙◌, subst}
 use Rattle.tasks.specs.Masked.{masked}
+use Rattle.tasks.specs.Meaning.{Meaning}
 use Rattle.search.specs.declared.entry.Entry as stored
-use Rattle.search.specs.declared.entry.Entry.TheVariants.{Open}
 use Rattle.search.specs.Entries.{entries_of}
+use Rattle.search.specs.Machines.{Entry, Machine}
 use Rattle.search.specs.Machines.Entry.{part}
 use Rattle.search.specs.Machines.Stage.{unfinished}
-use Rattle.search.specs.Steps.{put_up}
+use Rattle.search.specs.Steps.{first_part, put_up}
+use Rattle.search.specs.Stored.{KeptUp}
 use Rattle.search.proofs.Deepening.{put_up_shallow}
 use Rattle.search.proofs.Topping.{put_up_topped}
-use Rattle.search.proofs.Stepping.{kept_so, machine_so}
 use Rattle.search.proofs.record.Search.put_up.Goals as goal
+
+only_entry : (m : Meaning) (bound k : ℕ) (es : List stored.Entry) (es' : List Entry) → es ≡ [] → es' ≡ part (first_part m k) None ∷ entries_of es
+    → record { stage = unfinished; bound = bound; round = k; entries = es' } ≡ put_up m bound k
+unfolding put_up
+only_entry m bound k es es' empty at =
+    ap (λ (xs : List Entry). record { stage = unfinished; bound = bound; round = k; entries = xs })
+    (at ∙ ap (λ (xs : List stored.Entry). part (first_part m k) None ∷ entries_of xs) empty)
 
 pub invariant_of-self : goal.invariant_of-self
 unfolding put_up
 invariant_of-self c =
     let m = masked c.args.snapshot.now in
-    let k = c.args.round in
-    let bound = c.args.bound in
-    let e = ap (λ es. entries_of es) (c.push_reserved.ensures.items ∙ ap (λ (es : List stored.Entry). es ++ Open (record { part = c.first_part-part.result; from = None }) ∷ []) c.clear.ensures.items)
-    ∙ ap (λ (p : Structure). part p None ∷ []) c.first_part-part.ensures.value in
+    let r = c.args.rounds in
     record {
-      small = c.requires.bound;
-      within = c.requires.round;
-      room = omega (arith, c.args.self.now.room, c.clear.ensures.capacity, c.push_reserved.ensures.capacity);
-      kept = kept_so unfinished k (entries_of (vec_items c.push_reserved.new.self)) (put_up m bound k) refl refl e
-          ∣ record { shallow = put_up_shallow 128 m bound k; topped = λ _. put_up_topped m bound k } ∣₁;
+      kept = subst (λ (S : Machine). ∥ KeptUp S.stage S.round S.entries ∥₁)
+          (sym (only_entry m r.bound r.round c.clear.new.self (entries_of c.push_first.new.self) c.clear.ensures c.push_first.ensures))
+          ∣ record { shallow = put_up_shallow 128 m r.bound r.round; topped = λ _. put_up_topped m r.bound r.round } ∣₁;
     }
 
 pub returns : goal.returns
-unfolding put_up
 returns c =
-    let m = masked c.args.snapshot.now in
-    let k = c.args.round in
-    let bound = c.args.bound in
-    let e = ap (λ es. entries_of es) (c.push_reserved.ensures.items ∙ ap (λ (es : List stored.Entry). es ++ Open (record { part = c.first_part-part.result; from = None }) ∷ []) c.clear.ensures.items)
-    ∙ ap (λ (p : Structure). part p None ∷ []) c.first_part-part.ensures.value in
-    machine_so unfinished bound k (entries_of (vec_items c.push_reserved.new.self)) (put_up m bound k) refl refl refl e
+    let r = c.args.rounds in
+    only_entry (masked c.args.snapshot.now) r.bound r.round c.clear.new.self (entries_of c.push_first.new.self) c.clear.ensures c.push_first.ensures

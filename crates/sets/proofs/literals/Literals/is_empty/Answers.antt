@@ -1,20 +1,19 @@
-use Rattle.std.proofs.Common.{◌≡◌, true, false, arith}
-use Rattle.std.proofs.lemmas.Bool.{eqb-true, eq-eqb}
+use Rattle.std.proofs.Common.{◌≡◌, true, false}
+use Rattle.std.proofs.lemmas.Bool.{both_ways}
 use Rattle.sets.specs.Sets.{has}
-use Rattle.sets.proofs.BitLaws.{bit_none, no_bits, or_zero_left, or_zero_right, or_of_zeros}
+use Rattle.sets.proofs.Membership.{both}
 use Rattle.sets.proofs.literals.Literals.is_empty.Goals as goal
 
-pub returns : goal.returns
+pub returns-then-is_empty : goal.returns-then-is_empty
 unfolding has
-returns c =
-    let s = c.args.self in
+returns-then-is_empty c =
     record {
       value = (
-        λ e f v. elim v as (λ v. has s f v ≡ false) [
-          | true ↦ bit_none s.trues f (or_zero_left s.trues s.falses (eqb-true _ 0 e))
-          | false ↦ bit_none s.falses f (or_zero_right s.trues s.falses (eqb-true _ 0 e))
-        ],
-        λ h. eq-eqb _ 0 (or_of_zeros s.trues s.falses
-            (no_bits 64 s.trues (omega arith) (λ i k. h i true)) (no_bits 64 s.falses (omega arith) (λ i k. h i false))),
+        λ e f. both (λ v. has c.args.self f v ≡ false) (c.is_empty.ensures.value.0 c.if-is_empty.true f) (c.is_empty-then-is_empty.ensures.value.0 e f),
+        λ h. c.is_empty-then-is_empty.ensures.value.1 (λ f. h f false),
       );
     }
+
+pub returns-else-is_empty : goal.returns-else-is_empty
+unfolding has
+returns-else-is_empty c = record { value = (λ e. absurd (both_ways c.is_empty.result c.if-is_empty.false e), λ h. c.is_empty.ensures.value.1 (λ f. h f true)) }

@@ -1,11 +1,11 @@
 use Rattle.std.proofs.Common.{Bool, not, ◌&&◌, ap, ◌∙◌}
 use Rattle.sets.specs.Bits.{bit}
-use Rattle.sets.specs.Sets.{has, holds}
+use Rattle.sets.specs.Sets.{has, member}
 use Rattle.sets.proofs.Membership.{both}
 use Rattle.sets.proofs.literals.Literals.of_state.Goals as goal
 
 pub returns : goal.returns
-unfolding has holds
+unfolding has member
 returns c =
     let s = c.args.state in
     record {

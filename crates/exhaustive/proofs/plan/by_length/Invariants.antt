@@ -1,7 +1,0 @@
-use Rattle.std.proofs.Common.{◌≡◌}
-use Rattle.tasks.specs.Masked.{masked}
-use Rattle.exhaustive.proofs.Lengths.{Covered}
-use Rattle.exhaustive.proofs.plan.by_length.Given as goal
-
-abbrev pub invariant-loop-n : goal.invariant-loop-n
-invariant-loop-n l = Covered (masked l.task) l.budget l.left l.n × (l.plan ≡ l.initial.plan)

@@ -1,7 +1,0 @@
-use Rattle.sets.specs.Sets.{among}
-use Rattle.sets.proofs.BitLaws.{bit_of_and}
-use Rattle.sets.proofs.actions.ActionSet.common.Goals as goal
-
-pub returns : goal.returns
-unfolding among
-returns c = record { value = λ i. bit_of_and c.args.self.bits c.args.other.bits i }

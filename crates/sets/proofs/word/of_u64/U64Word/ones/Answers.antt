@@ -1,0 +1,6 @@
+use Rattle.std.proofs.Common.{arith}
+use Rattle.sets.proofs.Counting.{ones_count}
+use Rattle.sets.proofs.word.of_u64.U64Word.ones.Goals as goal
+
+pub returns : goal.returns
+returns c = ones_count 64 c.args.self (omega arith)
