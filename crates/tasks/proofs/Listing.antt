@@ -1,14 +1,13 @@
 -- Lists read from the front: what one number more adds to the numbers listed, and one literal more to the literals seen.
-use Rattle.std.proofs.Common.{◌≡◌, ℕ, zero, suc, ◌+◌, ◌<◌, ◌≤◌, Bool, true, false, ◌&&◌, ◌||◌, eqb, ltb, ◌⊎◌, List, [], ◌∷◌, ◌++◌, length, get_or, take, ℤ, pos, negsuc, nat_abs, sym, refl, ap, ◌∙◌, ap₂, inl, inr, add-one, arith, Some, All}
+use Rattle.std.proofs.Common.{◌≡◌, ℕ, zero, suc, ◌+◌, ◌<◌, ◌≤◌, Bool, true, false, ◌&&◌, ◌||◌, eqb, ◌⊎◌, List, [], ◌∷◌, ◌++◌, length, get_or, take, ℤ, pos, negsuc, nat_abs, sym, refl, ap, ◌∙◌, ap₂, inl, inr, add-one, arith}
 use Rattle.std.proofs.lemmas.List.{take_more}
-use Rattle.std.proofs.lemmas.List.Elements.{All-pop}
-use Rattle.std.proofs.lemmas.Bool.{and_parts, both_ways, lt-ltb, cases_lt, eq-eqb, eqb-true, false≢true, or_cases, or_left, or_right}
+use Rattle.std.proofs.lemmas.Bool.{and_parts, both_ways, cases_lt, eq-eqb, eqb-true, false≢true, or_cases, or_left, or_right}
 use Rattle.std.proofs.lemmas.Bool.Decides.{nat_tests}
 use Rattle.sets.specs.Signs.{says}
 use Rattle.tasks.specs.Bans.{listed}
 use Rattle.tasks.specs.Restarts.{seen}
 
-eqb_swap : (a b : ℕ) → eqb a b ≡ eqb b a
+pub eqb_swap : (a b : ℕ) → eqb a b ≡ eqb b a
 eqb_swap a b = grind (arith, nat_tests)
 
 or_false : (b : Bool) → (b || false) ≡ b
@@ -23,12 +22,8 @@ listed_push : (ys : List ℕ) (y x : ℕ) → listed (ys ++ (y ∷ [])) x ≡ (l
 listed_push [] y x = or_false (eqb y x)
 listed_push (z ∷ ys) y x = ap (λ b. eqb z x || b) (listed_push ys y x) ∙ or_assoc (eqb z x) (listed ys x) (eqb y x)
 
--- a set has the listed numbers, if all are below its width, and one more where one more is put in
-pub listed_more : (w : ℕ) (ys : List ℕ) (y : ℕ) (old new : ℕ → Bool) → ((x : ℕ) → new x ≡ (old x || (ltb y w && eqb x y))) → (All (λ x. x < w) ys → (x : ℕ) → old x ≡ listed ys x)
-    → All (λ x. x < w) (ys ++ (y ∷ [])) → (x : ℕ) → new x ≡ listed (ys ++ (y ∷ [])) x
-listed_more w ys y old new adds before all x =
-    let parts = All-pop (λ x. x < w) (ys ++ (y ∷ [])) ys (Some y) refl all in
-    adds x ∙ ap₂ (λ b s. b || (s && eqb x y)) (before parts.0 x) (lt-ltb y w parts.1) ∙ ap (λ b. listed ys x || b) (eqb_swap x y) ∙ sym (listed_push ys y x)
+pub listed_more : (xs : List ℕ) (i x : ℕ) → i < length xs → listed (take (i + 1) xs) x ≡ (listed (take i xs) x || eqb (get_or xs i 0) x)
+listed_more xs i x below = ap (λ ys. listed ys x) (take_more xs i 0 below) ∙ listed_push (take i xs) (get_or xs i 0) x
 
 seen_push : (ls : List ℤ) (l : ℤ) (f : ℕ) (v : Bool) → seen (ls ++ (l ∷ [])) f v ≡ (seen ls f v || (eqb (nat_abs l) (f + 1) && says l v))
 seen_push [] l f v = or_false (eqb (nat_abs l) (f + 1) && says l v)

@@ -22,10 +22,13 @@ impl<T: Task> Ban<T> {
         ensures { Banned T.Task below out.now result }
     {
         let actions = below.actions();
-        if out.iter().any(|a| *a >= actions) {
-            return Err((Refusal::Action, below));
+        let mut banned = ActionSet::none();
+        for a in out {
+            if *a >= actions {
+                return Err((Refusal::Action, below));
+            }
+            banned = banned.with(*a);
         }
-        let banned = out.iter().fold(ActionSet::none(), |set, a| set.with(*a));
         Ok(Ban { below, banned })
     }
 }

@@ -53,11 +53,12 @@ impl Masks {
     pub fn of<T: Task>(task: &T) -> Snapshot
         ensures value { masked result ≡ meaning T.Task task.now }
     {
-        let rows = array::from_fn(|a| row_of(task, a));
+        let actions = task.actions();
+        let rows = array::from_fn(|a| row_of(task, actions, a));
         let removers = array::from_fn(|f| removers_of(&rows, f));
         Masks {
             facts: task.facts(),
-            actions: task.actions(),
+            actions,
             usable: task.usable_actions(),
             rows,
             start: task.start_state(),
@@ -141,11 +142,12 @@ impl Task for Masks {
 }
 
 // What an action needs and makes. Past the actions the task is not asked.
-fn row_of<T: Task>(task: &T, a: usize) -> Row
+fn row_of<T: Task>(task: &T, actions: usize, a: usize) -> Row
+    requires { actions ≡ T.Task.actions task.now }
     ensures needs { Names (T.Task.needs task.now a) result.needs }
     ensures makes { Names (T.Task.makes task.now a) result.makes }
 {
-    if a < task.actions() {
+    if a < actions {
         task.row(a)
     } else {
         Row::none()

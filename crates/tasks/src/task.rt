@@ -57,9 +57,10 @@ pub trait Task {
         ensures needs { Names (needs self.now a) result.needs }
         ensures makes { Names (makes self.now a) result.makes }
     {
+        let facts = self.facts();
         Row {
-            needs: literals_by(self.facts(), |f| self.needs(a, f)),
-            makes: literals_by(self.facts(), |f| self.makes(a, f)),
+            needs: literals_by(facts, |f| self.needs(a, f)),
+            makes: literals_by(facts, |f| self.makes(a, f)),
         }
     }
 

@@ -1,27 +1,29 @@
-use Rattle.std.proofs.Common.{◌≡◌, ℕ, ◌<◌, ◌≤◌, false, ◌&&◌, ◌||◌, eqb, ltb, List, length, All, ap, arith, rules, tests}
+use Rattle.std.proofs.Common.{◌<◌, ◌&&◌, ◌||◌, eqb, length, get_or, take, sym, ap, ◌∙◌, arith, take_all, below_more}
 use mathlib.Core.Path.{fun_ext}
-use Rattle.std.specs.List.{AllWithin}
-use Rattle.std.proofs.lemmas.Fn.{fold_over, fronts}
-use Rattle.std.proofs.lemmas.Iterator.{cases_from_any, YieldsList-from_slice}
-use Rattle.sets.specs.Sets.{ActionSet, among}
+use Rattle.std.proofs.lemmas.Bool.{lt-ltb}
+use Rattle.sets.specs.Sets.{among}
 use Rattle.tasks.specs.Bundle.{meaning}
 use Rattle.tasks.specs.Bans.{banned, listed}
-use Rattle.tasks.proofs.Listing.{listed_more}
+use Rattle.tasks.proofs.Listing.{eqb_swap, listed_more}
 use Rattle.tasks.proofs.ban.Ban.new.Goals as goal
+
+pub loop-a-preserved : goal.loop-a-preserved
+loop-a-preserved g c =
+    let xs = c.args.out.now in
+    let i = c.loop-a.a-index in
+    let within : i < length xs = omega arith in
+    let law = g.met.T.Task.lawful c.args.below in
+    let small : get_or xs i 0 < 128 = omega arith in
+    record {
+      within = omega arith;
+      small = below_more _ _ c.loop-a.invariant.small (omega arith);
+      are = λ a. c.with-banned.ensures.value a ∙ ap (λ b. among c.loop-a.banned a || (b && eqb a (get_or xs i 0))) (lt-ltb (get_or xs i 0) 128 small)
+          ∙ ap (λ b. b || eqb a (get_or xs i 0)) (c.loop-a.invariant.are a) ∙ ap (λ b. listed (take i xs) a || b) (eqb_swap a (get_or xs i 0)) ∙ sym (listed_more xs i a within);
+    }
 
 pub returns : goal.returns
 returns g c =
-    let xs = c.args.out.now in
-    let n = c.actions-actions.result in
-    let most = (g.met.T.Task.lawful c.args.below).actions_most in
-    let below : AllWithin (λ (x : ℕ). x < n) xs 0 (length xs) =
-    cases_from_any _ _ false (λ (x : ℕ). n ≤ x) (λ (x : ℕ). x < n) c.if-any.ensures.ran (YieldsList-from_slice {s = c.iter.result} xs c.iter.ensures.rest)
-    (λ x q k. search (rules, tests)) (λ x q k. search (rules, tests)) in
-    let J : List ℕ → ActionSet → Type 0 = λ ys set. All (λ (x : ℕ). x < 128) ys → (a : ℕ) → among set a ≡ listed ys a in
-    let are : J xs c.fold-banned.result =
-    fold_over fronts _ _ J _ (λ ys a x b q ih k.
-    (let adds : (j : ℕ) → among b j ≡ (among a j || (ltb x.now 128 && eqb j x.now)) = search rules in listed_more 128 ys x.now (among a) (among b) adds ih, search rules))
-    c.iter-2.result xs c.none.result c.fold-banned.result (YieldsList-from_slice {s = c.iter-2.result} xs c.iter-2.ensures.rest).runs (λ _. c.none.ensures.value) c.fold-banned.ensures.ran in (
-      λ k l. omega (arith, below k 0 (omega arith) l, c.actions-actions.ensures),
-      ap (λ b. banned b (meaning g.T.Task c.args.below)) (fun_ext (are (λ k d l. omega (arith, below k d (omega arith) l, c.actions-actions.ensures)))),
+    let xs = c.args.out.now in (
+      λ k h. omega (arith, c.loop-a.invariant.small k),
+      ap (λ b. banned b (meaning g.T.Task c.args.below)) (fun_ext (λ a. c.loop-a.invariant.are a ∙ ap (λ ys. listed ys a) (take_all c.loop-a.a-index xs (omega arith)))),
     )

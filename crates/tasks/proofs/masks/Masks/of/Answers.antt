@@ -19,11 +19,11 @@ invariant_of-result g c =
     let named = made_at _ _ (λ (a : ℕ) (row : Row). NamesRow m a row) (λ i y q k. search rules) rows 128 c.from_fn-rows.ensures.items in
     let cleared = made_at _ _ (λ (f : ℕ) (set : ActionSet). (a : ℕ) → among set a ≡ has (makes_at rows a) f false) (λ i y q k. search rules) sets 64 c.from_fn-removers.ensures.items in
     let facts = c.facts.result in
-    let actions = c.actions.result in
+    let actions = c.actions-actions.result in
     let usable = c.usable_actions.result in
     let start = c.start_state.result in
     let goals = c.goals.result in
-    let d = described m law facts actions usable rows start goals c.facts.ensures c.actions.ensures c.usable_actions.ensures c.from_fn-rows.ensures.items.long (λ a l. named a idle l) c.start_state.ensures c.goals.ensures in
+    let d = described m law facts actions usable rows start goals c.facts.ensures c.actions-actions.ensures c.usable_actions.ensures c.from_fn-rows.ensures.items.long (λ a l. named a idle l) c.start_state.ensures c.goals.ensures in
     record {
       some = of.some facts actions usable rows start goals m d;
       few = of.few facts actions usable rows start goals m d;
@@ -49,7 +49,7 @@ returns g c =
     let rows = c.from_fn-rows.result in
     let named = made_at _ _ (λ (a : ℕ) (row : Row). NamesRow m a row) (λ i y q k. search rules) rows 128 c.from_fn-rows.ensures.items in
     record {
-      value = means c.facts.result c.actions.result c.usable_actions.result rows c.start_state.result c.goals.result m
-          (described m law c.facts.result c.actions.result c.usable_actions.result rows c.start_state.result c.goals.result c.facts.ensures c.actions.ensures c.usable_actions.ensures
+      value = means c.facts.result c.actions-actions.result c.usable_actions.result rows c.start_state.result c.goals.result m
+          (described m law c.facts.result c.actions-actions.result c.usable_actions.result rows c.start_state.result c.goals.result c.facts.ensures c.actions-actions.ensures c.usable_actions.ensures
           c.from_fn-rows.ensures.items.long (λ a l. named a idle l) c.start_state.ensures c.goals.ensures);
     }
