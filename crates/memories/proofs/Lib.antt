@@ -1,3 +1,4 @@
 pub mod Chaining
 pub mod Finding
+pub mod Holding
 pub mod Recalling
