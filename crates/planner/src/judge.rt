@@ -1,6 +1,7 @@
 //! Planning for a job.
 ghost use Rattle.std.specs.Prelude.{IfOk};
 ghost use Rattle.tasks.specs.Masked.{masked};
+ghost use Rattle.search.specs.Parts.{actions_of};
 ghost use Rattle.planner.specs.Planned.{Judged};
 
 use crate::job::Job;
@@ -25,7 +26,7 @@ pub fn judge<M: Memory, E: Estimator>(
     memory: &mut M,
     estimator: &E,
 ) -> Result<Outcome, AllocError>
-    ensures value { IfOk result (λ o. Judged (masked job.now.task) job.now.bound o.verdict o.plan.items) }
+    ensures value { IfOk result (λ o. Judged (masked job.now.task) job.now.bound o.verdict (actions_of o.plan)) }
 {
     let mut search = Search::new(heap)?;
     search.open(&job.task, memory, job.bound).unwrap();

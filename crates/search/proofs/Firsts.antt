@@ -1,5 +1,5 @@
 -- The first part of a round, level by level: a value is left unless the start or a goal says the opposite.
-use Rattle.std.proofs.Common.{◌≡◌, ℕ, ◌<◌, ◌≤◌, min, Bool, true, false, not, ◌&&◌, eqb, ltb, leb, List, length, get_or, set, sym, refl, ap, ◌∙◌, ap₂, inl, inr, arith, length-set}
+use Rattle.std.proofs.Common.{◌≡◌, ℕ, zero, suc, ◌<◌, ◌≤◌, min, Bool, true, false, not, ◌&&◌, eqb, ltb, leb, List, length, get_or, set, ℤ, pos, negsuc, sym, refl, ap, ◌∙◌, ap₂, inl, inr, arith, length-set}
 use Rattle.std.proofs.lemmas.List.{get_or-set_same, get_or-set_other}
 use Rattle.std.proofs.Math.Bool.{and-true, and_assoc}
 use Rattle.std.proofs.lemmas.Bool.{cases_eq, cases_lt, eq-eqb, ne_eqb, le-leb, le-ltb, lt-leb, lt-ltb}
@@ -7,11 +7,9 @@ use Rattle.sets.specs.Bits.{bit}
 use Rattle.sets.specs.Sets.{among, has, ActionSet}
 use Rattle.sets.specs.Signs.{is, says}
 use Rattle.sets.specs.declared.literals.Literals.{Literals}
-use Rattle.tasks.specs.Meaning.{Meaning, Lawful, value}
-use Rattle.tasks.specs.Rows.{starts}
-use Rattle.tasks.specs.States.{packed, put}
+use Rattle.tasks.specs.Meaning.{Meaning, Lawful, Two}
+use Rattle.tasks.specs.States.{put, start_state}
 use Rattle.tasks.proofs.Packing.{bit_packed}
-use Rattle.tasks.proofs.Starting.{starts_inside}
 use Rattle.filter.specs.declared.part.Part.{Part}
 use Rattle.filter.specs.Parts.{level_at, no_literals, step_at, structure}
 use Rattle.filter.proofs.Uniqueness.{same_structure}
@@ -37,28 +35,26 @@ usable_is m law a = elim (cases_lt a m.actions) [
   | inr l ↦ rw (le-ltb a m.actions l) (law.usable_past a l)
 ]
 
-put_value : (b c : Bool) → put (value b) c ≡ b
-put_value true c = refl
-put_value false c = refl
-
--- the value of a fact is the one whose opposite is not said
-not_against : (b v : Bool) → is v b ≡ not (says (value b) (not v))
-not_against true true = refl
-not_against true false = refl
-not_against false true = refl
-not_against false false = refl
+-- the value that the start gives a fact is the one whose opposite is not said
+not_against : (z : ℤ) (v : Bool) → Two z → is v (put z false) ≡ not (says z (not v))
+not_against (pos zero) v two = absurd (let z : ⊥ = omega (arith, two) in z)
+not_against (pos (suc zero)) true two = refl
+not_against (pos (suc zero)) false two = refl
+not_against (pos (suc (suc n))) v two = absurd (let z : ⊥ = omega (arith, two) in z)
+not_against (negsuc zero) true two = refl
+not_against (negsuc zero) false two = refl
+not_against (negsuc (suc n)) v two = absurd (let z : ⊥ = omega (arith, two) in z)
 
 -- level 0 has the start
-pub start_level : (facts state x f : ℕ) (v : Bool) → facts ≤ 64 → x ≡ packed (λ g. put (starts facts state g) false) facts
-    → (ltb f (min facts 64) && is v (bit x f)) ≡ (ltb f facts && not (says (starts facts state f) (not v)))
-start_level facts state x f v few e =
-    let same : min facts 64 ≡ facts = omega arith in
+pub start_level : (m : Meaning) → Lawful m → (x f : ℕ) (v : Bool) → x ≡ start_state m
+    → (ltb f (min m.facts 64) && is v (bit x f)) ≡ (ltb f m.facts && not (says (m.start f) (not v)))
+start_level m law x f v e =
+    let same : min m.facts 64 ≡ m.facts = omega (arith, law.facts_most) in
     ap (λ (n : ℕ). ltb f n && is v (bit x f)) same
-    ∙ when_below f facts (is v (bit x f)) (not (says (starts facts state f) (not v))) (λ l.
+    ∙ when_below f m.facts (is v (bit x f)) (not (says (m.start f) (not v))) (λ l.
     ap (λ (y : ℕ). is v (bit y f)) e
-    ∙ ap (is v) (bit_packed (λ g. put (starts facts state g) false) facts f l ∙ ap (λ z. put z false) (starts_inside facts state f l) ∙ put_value (bit state f) false)
-    ∙ not_against (bit state f) v
-    ∙ ap (λ z. not (says z (not v))) (sym (starts_inside facts state f l)))
+    ∙ ap (is v) (bit_packed (λ g. put (m.start g) false) m.facts f l)
+    ∙ not_against (m.start f) v (law.start_two f l))
 
 at_last : (b a g : Bool) → ((b && a) && not g) ≡ ((true && b) && (a && not (true && g)))
 at_last true a g = refl

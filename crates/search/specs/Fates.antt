@@ -11,12 +11,13 @@ use Rattle.search.specs.declared.fate.Halves.{Halves}
 use Rattle.search.specs.Machines.{Entry, Made}
 use Rattle.search.specs.Machines.Entry.{part, pair}
 use Rattle.search.specs.Machines.Stage.{unfinished, found}
+use Rattle.search.specs.Parts.{actions_of}
 use Rattle.search.specs.Steps.{best_below, earlier, first_half, half, next, settle}
 
 -- What a fate makes of the search whose newest part it is.
 abbrev pub effect : Meaning → Fate → ℕ → ℕ → Option ℕ → List Entry → Made
 effect m Dropped bound k from rest = settle m bound k [] rest
-effect m (Found p) bound k from rest = record { machine = record { stage = found p.items; bound = bound; round = k; entries = rest }; keeps = [] }
+effect m (Found p) bound k from rest = record { machine = record { stage = found (actions_of p); bound = bound; round = k; entries = rest }; keeps = [] }
 effect m (Split h) bound k from rest = record {
   machine = record { stage = unfinished; bound = bound; round = k; entries = part (structure h.first.part) (Some h.step) ∷ part (structure h.second.part) (Some h.step) ∷ cond (earlier from h.step) (pair h.state (k - h.step) ∷ rest) rest };
   keeps = [];

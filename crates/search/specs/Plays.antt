@@ -9,6 +9,7 @@ use Rattle.search.specs.declared.play.Unplayed.{Unplayed}
 use Rattle.search.specs.declared.play.Unplayed.TheVariants.{NotBlank, NoRoom}
 use Rattle.search.specs.Machines.{Machine, Stage}
 use Rattle.search.specs.Machines.Stage.{blank, unfinished, found, none}
+use Rattle.search.specs.Parts.{actions_of}
 use Rattle.search.specs.Played.{Calls, StandsLawfully, tally, untouched}
 use Rattle.search.specs.Runs.{verdict_of}
 
@@ -26,8 +27,8 @@ module _ {X Y : Type 0} (M : memory.Ghosts X) (E : estimator.Ghosts Y) (m : Mean
     pub one_each : length (vec_items p.answers) ≡ length calls
     pub made : Calls M E m e calls (vec_items p.answers) S x S' x'
     pub told : p.verdict ≡ verdict_of S'.stage S'.bound
-    pub written : p.plan.items ≡ plan_standing S'.stage
-    pub law : StandsLawfully m (tally untouched calls (vec_items p.answers)) p.verdict p.plan.items
+    pub written : actions_of p.plan ≡ plan_standing S'.stage
+    pub law : StandsLawfully m (tally untouched calls (vec_items p.answers)) p.verdict (actions_of p.plan)
 
   -- No call was made: the search is not blank, or there is no room for the answers.
   abbrev pub WhyNot : Unplayed → Machine → Type 0

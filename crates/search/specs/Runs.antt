@@ -91,3 +91,7 @@ LeavesEveryRun S S' = (P : Pairs) (m : Meaning) (h : ℕ → ℕ → Bool) (n : 
 abbrev pub WritesAShortestPlan : Machine → List ℕ → Result ℕ Refusal → Type 0
 WritesAShortestPlan S b' (Ok k) = (P : Pairs) (m : Meaning) (h : ℕ → ℕ → Bool) (n : ℕ) → Run S P m h n → Shortest m (take k b')
 WritesAShortestPlan S b' (Err e) = Unit {0}
+
+-- After a run in which a plan stands, the plan that was answered is a shortest one.
+abbrev pub AnswersAShortestPlan : Machine → List ℕ → Type 0
+AnswersAShortestPlan S plan = (P : Pairs) (m : Meaning) (h : ℕ → ℕ → Bool) (n : ℕ) → Run S P m h n → Stands S.stage → Shortest m plan

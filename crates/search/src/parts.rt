@@ -4,7 +4,7 @@ ghost use Rattle.filter.specs.Filtering.{Consistent};
 ghost use Rattle.filter.specs.Parts.{structure};
 ghost use Rattle.filter.specs.Plans.{state_of};
 ghost use Rattle.tasks.specs.Masked.{masked};
-ghost use Rattle.search.specs.Parts.{OfTask};
+ghost use Rattle.search.specs.Parts.{OfTask, actions_of};
 ghost use Rattle.search.specs.Steps.{lowest, plan_from, wide};
 
 use crate::plan::Plan;
@@ -44,7 +44,7 @@ impl LeftPart<'_> {
 
     // The plan of a part with one action at each step.
     pub fn plan(self) -> Plan
-        ensures { result.items ≡ plan_from (task_of self.entry) (left_of self.entry) self.entry.part.now.part.round 0 }
+        ensures { actions_of result ≡ plan_from (task_of self.entry) (left_of self.entry) self.entry.part.now.part.round 0 }
     {
         let steps = &self.part.part.steps[..self.part.part.round as usize];
         let mut plan = Plan::new();

@@ -7,7 +7,8 @@ ghost use Rattle.tasks.specs.Meaning.{Meaning};
 ghost use Rattle.search.specs.Calls.{Advancing, Lifting, Opening, Planning, Refuses};
 ghost use Rattle.search.specs.Entries.{entries_of};
 ghost use Rattle.search.specs.Machines.Stage.{blank, unfinished};
-ghost use Rattle.search.specs.Runs.{HasRoomFor, LeavesEveryRun, OpensARun, Run, TheLaw, WritesAShortestPlan, counted, recounted, verdict_of};
+ghost use Rattle.search.specs.Runs.{AnswersAShortestPlan, HasRoomFor, LeavesEveryRun, OpensARun, Run, TheLaw, WritesAShortestPlan, counted, recounted, verdict_of};
+ghost use Rattle.search.specs.Parts.{actions_of};
 ghost use Rattle.search.specs.Steps.{put_up};
 ghost use Rattle.search.specs.Stored.{KeptUp, stage_of};
 
@@ -26,7 +27,8 @@ use std::alloc::{AllocError, Global};
 use tasks::Snapshot;
 use tasks::task::Task;
 
-/// A search for a shortest plan. Its holders call `open`, `advance`, `lift`, `verdict` and `plan` on it.
+/// A search for a shortest plan. Its holders call `open`, `advance`, `lift`, `verdict` and `plan` on it, and `standing`, which
+/// answers the plan as a value.
 #[derive(Drop)]
 pub struct Search {
     stage: Stage,
@@ -62,7 +64,7 @@ impl Search {
     {
         self.admit(Call::Open(bound))?;
         memory.empty();
-        self.put_up(&Snapshot::of(task), Rounds { round: 0, bound });
+        self.put_up(task, Rounds { round: 0, bound });
         Ok(())
     }
 
@@ -89,7 +91,7 @@ impl Search {
     {
         self.admit(Call::Lift(bound))?;
         let round = self.rounds.bound + 1;
-        self.put_up(&Snapshot::of(task), Rounds { round, bound });
+        self.put_up(task, Rounds { round, bound });
         Ok(())
     }
 
@@ -126,10 +128,12 @@ impl Search {
 
     /// The plan that stands, as a value; it is empty where none stands.
     pub fn standing(&self) -> Plan
-        ensures value { result.items ≡ plan_standing (machine_of self.now).stage }
+        ensures value { actions_of result ≡ plan_standing (machine_of self.now).stage }
+        ensures run { LeavesEveryRun (machine_of self.now) (machine_of self.now) }
+        ensures law { AnswersAShortestPlan (machine_of self.now) (actions_of result) }
     {
-        match &self.stage {
-            Stage::Found(plan) => Plan::try_from(plan.as_slice()).unwrap(),
+        match self.stage {
+            Stage::Found(plan) => plan,
             _ => Plan::new(),
         }
     }
@@ -156,11 +160,11 @@ impl Search {
     }
 
     // Puts up a round: its first part is the only entry.
-    fn put_up(&mut self, snapshot: &Snapshot, rounds: Rounds)
-        ensures { machine_of self.new ≡ put_up (masked snapshot.now) rounds.bound rounds.round }
+    fn put_up<T: Task>(&mut self, task: &T, rounds: Rounds)
+        ensures { machine_of self.new ≡ put_up (meaning T.Task task.now) rounds.bound rounds.round }
     {
         self.stack.clear();
-        self.stack.push_first(snapshot, rounds);
+        self.stack.push_first(task, rounds);
         self.stage = Stage::Unfinished;
         self.rounds = rounds;
     }

@@ -7,7 +7,7 @@ ghost use Rattle.search.specs.Depths.{Topped};
 ghost use Rattle.search.specs.Entries.{below_pairs, entries_of, entry_of, pairs_on_top};
 ghost use Rattle.search.specs.Machines.Entry.{pair as due, part};
 ghost use Rattle.search.specs.Steps.{earlier, first_part};
-ghost use Rattle.tasks.specs.Masked.{masked};
+ghost use Rattle.tasks.specs.Bundle.{meaning};
 
 use crate::entry::{Entry, OpenPart};
 use crate::fate::Halves;
@@ -17,7 +17,7 @@ use memories::memory::Memory;
 use memories::row::Row;
 use std::alloc::{AllocError, Global};
 use std::marker::Model;
-use tasks::Snapshot;
+use tasks::task::Task;
 
 /// How many entries can be open at once: in round 30, with 128 actions at each step.
 pub const MOST_ENTRIES: usize = 3841;
@@ -29,7 +29,7 @@ pub struct Stack {
 }
 
 impl Model for Stack {
-    ghost use Rattle.std.specs.Prelude.{◌≤◌, List, vec_capacity};
+    ghost use Rattle.std.specs.Prelude.{◌≡◌, List, vec_capacity};
     ghost use Rattle.search.specs.declared.stack.TheConstants.{MOST_ENTRIES};
     ghost use Rattle.search.specs.declared.entry.Entry.{Entry};
 
@@ -37,7 +37,7 @@ impl Model for Stack {
 
     ghost view = { λ s. s.entries.items };
 
-    ghost invariant = { λ s. MOST_ENTRIES ≤ vec_capacity s.entries };
+    ghost invariant = { λ s. vec_capacity s.entries ≡ MOST_ENTRIES };
 }
 
 impl Stack {
@@ -66,12 +66,12 @@ impl Stack {
 
     // Puts the first part of a round on top.
     // Stays a clause: a full stack is a stack too, and only the callers know that there is room for one entry more.
-    pub fn push_first(&mut self, snapshot: &Snapshot, rounds: Rounds)
+    pub fn push_first<T: Task>(&mut self, task: &T, rounds: Rounds)
         requires { length (entries_of self.old) < MOST_ENTRIES }
-        ensures { entries_of self.new ≡ part (first_part (masked snapshot.now) rounds.round) None ∷ entries_of self.old }
+        ensures { entries_of self.new ≡ part (first_part (meaning T.Task task.now) rounds.round) None ∷ entries_of self.old }
     {
         self.push(Entry::Open(OpenPart {
-            part: first_part(snapshot, rounds),
+            part: first_part(task, rounds),
             from: None,
         }));
     }

@@ -2,7 +2,7 @@
 use crate::plan::Plan;
 
 /// The verdict that stands in a search; a plan that was found is kept with it.
-#[derive(Drop)]
+#[derive(Clone, Copy)]
 pub enum Stage {
     Blank,
     Unfinished,

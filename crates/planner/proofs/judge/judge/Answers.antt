@@ -2,6 +2,7 @@ use Rattle.std.proofs.Common.{◌+◌, ◌*◌, arith}
 use Rattle.memories.specs.Pairs.{recalls}
 use Rattle.tasks.specs.Masked.{masked}
 use Rattle.tasks.specs.Masking.{masked_lawful}
+use Rattle.search.specs.Parts.{actions_of}
 use Rattle.search.specs.Stepped.{machine_of}
 use Rattle.planner.proofs.Judging.{advance_is_ok, driven_on, judged, opened_right, opening_is_ok}
 use Rattle.planner.proofs.judge.judge.Goals as goal
@@ -43,6 +44,6 @@ returns g c =
     let P = g.M.Memory.has c.loop.memory in
     let run = c.loop.invariant.run in
     record {
-      value = judged m c.args.job.now.bound (machine_of c.loop.search) P h n c.verdict.result c.standing.result.items c.loop.invariant (omega arith) c.standing.ensures.value
+      value = judged m c.args.job.now.bound (machine_of c.loop.search) P h n c.verdict.result (actions_of c.standing.result) c.loop.invariant (omega arith) c.standing.ensures.value
           (c.verdict.ensures.within P m h n run) (c.verdict.ensures.law P m h n run) c.verdict.ensures.value;
     }

@@ -1,4 +1,4 @@
-use Rattle.std.proofs.Common.{◌≡◌, ℕ, ◌+◌, ◌<◌, length, get_or, ◌++◌, [], ◌∷◌, Bool, true, Option, Some, None, MatchOption, unwrap_or, sym, ap, ◌∙◌, subst, arith, length-take-le}
+use Rattle.std.proofs.Common.{◌≡◌, ℕ, ◌+◌, ◌<◌, length, get_or, ◌++◌, [], ◌∷◌, Bool, true, Option, Some, None, MatchOption, unwrap_or, sym, ap, ◌∙◌, subst, arith, length-take-le, length-append}
 use Rattle.std.proofs.lemmas.Bool.{both_ways}
 use Rattle.std.proofs.lemmas.List.{get_or-take}
 use Rattle.sets.specs.Counts.{Empty, Lowest}
@@ -26,7 +26,7 @@ loop-step-preserved c =
     let i = c.loop-step.step-index in
     let inside : i < p.round = omega (arith, c.loop-step-test.true, length-take-le p.round p.steps (omega (arith, p.wide, s.part.now.few))) in
     record {
-      long = omega (arith, c.push.ensures.len, c.loop-step.invariant.long);
+      long = ap length c.push.ensures ∙ length-append _ _ ∙ ap (λ n. n + 1) c.loop-step.invariant.long;
       within = omega arith;
       lowest =
           let w = some_action m p s.own i inside s.consistent in
@@ -34,6 +34,6 @@ loop-step-preserved c =
           let told = c.unwrap_or.ensures ∙ lowest_stored m p s.own i inside (unwrap_or c.lowest.result 0)
           (lowest_told c.lowest.result (among (get_or p.steps i no_actions)) (subst (λ (s : ActionSet). MatchOption c.lowest.result (Empty (among s)) (Lowest (among s))) here c.lowest.ensures.value) w.0 w.1) in
           let same : i ≡ 0 + i = omega arith in
-          c.push.ensures.items ∙ ap (λ xs. xs ++ c.unwrap_or.result ∷ []) c.loop-step.invariant.lowest
+          c.push.ensures ∙ ap (λ xs. xs ++ c.unwrap_or.result ∷ []) c.loop-step.invariant.lowest
           ∙ ap (λ a. plan_from m (structure p) i 0 ++ a ∷ []) (told ∙ ap (λ j. lowest m.actions ((structure p).left j)) same) ∙ sym (plan_more m (structure p) i 0);
     }

@@ -1,9 +1,7 @@
-use Rattle.std.proofs.Common.{Ok, ap, ◌∙◌}
+use Rattle.std.proofs.Common.{Ok}
 use Rattle.tasks.specs.Bundle.{meaning}
-use Rattle.tasks.specs.Meaning.{Meaning}
 use Rattle.search.specs.Calls.{Opened}
 use Rattle.search.specs.Runs.Run.{opens}
-use Rattle.search.specs.Steps.{put_up}
 use Rattle.search.specs.Stepped.{machine_of}
 use Rattle.search.proofs.Forgetting.{forget_opening}
 use Rattle.search.proofs.record.Search.open.Goals as goal
@@ -17,7 +15,7 @@ returns g c =
     let x' = c.empty.new.self in
     let does : Opened g.row.M.Denot g.M.Memory.empties m c.args.bound S x S' x' = record {
       allowed = c.in_ok-admit.ensures;
-      search = c.put_up.ensures ∙ ap (λ (t : Meaning). put_up t c.args.bound 0) c.of.ensures.value;
+      search = c.put_up.ensures;
       emptied = c.empty.ensures.after;
     } in
     record {

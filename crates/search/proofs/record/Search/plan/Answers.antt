@@ -3,6 +3,7 @@ use Rattle.std.proofs.lemmas.Grind.{common_steps}
 use Rattle.search.specs.declared.stage.Stage as stored
 use Rattle.search.specs.Calls.{Planned}
 use Rattle.search.specs.Stepped.{machine_of}
+use Rattle.search.specs.Parts.{actions_of}
 use Rattle.search.specs.Stored.{stage_of}
 use Rattle.search.proofs.Running.{what_plan_writes}
 use Rattle.search.proofs.record.Search.plan.Goals as goal
@@ -13,7 +14,7 @@ returns c =
     let b = c.args.buffer.now in
     let b' = c.copy_from_slice.new.self ++ drop c.len.result b in
     let does : Planned S b b' c.len-2.result = record {
-      plan = c.in-Found.plan.items;
+      plan = actions_of c.in-Found.plan;
       stands = ap (λ (s : stored.Stage). stage_of s) c.in-Found.is;
       long = c.len-2.ensures.value;
       room = grind (arith, common_steps);

@@ -1,5 +1,5 @@
 use Rattle.std.proofs.Common.{◌≡◌, ℕ, List, [], ◌∷◌, None, sym, ap, ◌∙◌, subst}
-use Rattle.tasks.specs.Masked.{masked}
+use Rattle.tasks.specs.Bundle.{meaning}
 use Rattle.tasks.specs.Meaning.{Meaning}
 use Rattle.search.specs.declared.entry.Entry as stored
 use Rattle.search.specs.Entries.{entries_of}
@@ -21,8 +21,8 @@ only_entry m bound k es es' empty at =
 
 pub invariant_of-self : goal.invariant_of-self
 unfolding put_up
-invariant_of-self c =
-    let m = masked c.args.snapshot.now in
+invariant_of-self g c =
+    let m = meaning g.T.Task c.args.task.now in
     let r = c.args.rounds in
     record {
       kept = subst (λ (S : Machine). ∥ KeptUp S.stage S.round S.entries ∥₁)
@@ -31,6 +31,6 @@ invariant_of-self c =
     }
 
 pub returns : goal.returns
-returns c =
+returns g c =
     let r = c.args.rounds in
-    only_entry (masked c.args.snapshot.now) r.bound r.round c.clear.new.self (entries_of c.push_first.new.self) c.clear.ensures c.push_first.ensures
+    only_entry (meaning g.T.Task c.args.task.now) r.bound r.round c.clear.new.self (entries_of c.push_first.new.self) c.clear.ensures c.push_first.ensures
