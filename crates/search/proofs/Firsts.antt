@@ -7,8 +7,10 @@ use Rattle.sets.specs.Bits.{bit}
 use Rattle.sets.specs.Sets.{among, has, ActionSet}
 use Rattle.sets.specs.Signs.{is, says}
 use Rattle.sets.specs.declared.literals.Literals.{Literals}
+use Rattle.tasks.specs.Layers.{start_two}
 use Rattle.tasks.specs.Meaning.{Meaning, Lawful, Two}
-use Rattle.tasks.specs.States.{put, start_state}
+use Rattle.tasks.specs.Rows.{starts}
+use Rattle.tasks.specs.States.{packed, put, start_state}
 use Rattle.tasks.proofs.Packing.{bit_packed}
 use Rattle.filter.specs.declared.part.Part.{Part}
 use Rattle.filter.specs.Parts.{level_at, no_literals, step_at, structure}
@@ -45,16 +47,26 @@ not_against (negsuc zero) true two = refl
 not_against (negsuc zero) false two = refl
 not_against (negsuc (suc n)) v two = absurd (let z : ⊥ = omega (arith, two) in z)
 
--- level 0 has the start
-pub start_level : (m : Meaning) → Lawful m → (x f : ℕ) (v : Bool) → x ≡ start_state m
-    → (ltb f (min m.facts 64) && is v (bit x f)) ≡ (ltb f m.facts && not (says (m.start f) (not v)))
-start_level m law x f v e =
-    let same : min m.facts 64 ≡ m.facts = omega (arith, law.facts_most) in
+-- level 0 has the start, whichever numbers give it
+started_level : (facts : ℕ) (start : ℕ → ℤ) → ((f : ℕ) → f < facts → Two (start f)) → (x f : ℕ) (v : Bool) → facts ≤ 64
+    → x ≡ packed (λ g. put (start g) false) facts → (ltb f (min facts 64) && is v (bit x f)) ≡ (ltb f facts && not (says (start f) (not v)))
+started_level facts start two x f v few e =
+    let same : min facts 64 ≡ facts = omega arith in
     ap (λ (n : ℕ). ltb f n && is v (bit x f)) same
-    ∙ when_below f m.facts (is v (bit x f)) (not (says (m.start f) (not v))) (λ l.
+    ∙ when_below f facts (is v (bit x f)) (not (says (start f) (not v))) (λ l.
     ap (λ (y : ℕ). is v (bit y f)) e
-    ∙ ap (is v) (bit_packed (λ g. put (m.start g) false) m.facts f l)
-    ∙ not_against (m.start f) v (law.start_two f l))
+    ∙ ap (is v) (bit_packed (λ g. put (start g) false) facts f l)
+    ∙ not_against (start f) v (two f l))
+
+-- level 0 has the start of a task
+pub task_start_level : (m : Meaning) → Lawful m → (x f : ℕ) (v : Bool) → x ≡ start_state m
+    → (ltb f (min m.facts 64) && is v (bit x f)) ≡ (ltb f m.facts && not (says (m.start f) (not v)))
+task_start_level m law x f v e = started_level m.facts m.start law.start_two x f v law.facts_most e
+
+-- level 0 has the start that a state gives
+pub start_level : (facts state x f : ℕ) (v : Bool) → facts ≤ 64 → x ≡ packed (λ g. put (starts facts state g) false) facts
+    → (ltb f (min facts 64) && is v (bit x f)) ≡ (ltb f facts && not (says (starts facts state f) (not v)))
+start_level facts state x f v few e = started_level facts (starts facts state) (start_two facts (bit state)) x f v few e
 
 at_last : (b a g : Bool) → ((b && a) && not g) ≡ ((true && b) && (a && not (true && g)))
 at_last true a g = refl

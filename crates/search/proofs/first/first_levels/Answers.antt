@@ -4,7 +4,7 @@ use Rattle.sets.specs.Bits.{bit}
 use Rattle.sets.specs.Signs.{is}
 use Rattle.tasks.specs.Bundle.{meaning}
 use Rattle.filter.specs.Parts.{no_literals}
-use Rattle.search.proofs.Firsts.{first_levels, start_level}
+use Rattle.search.proofs.Firsts.{first_levels, task_start_level}
 use Rattle.search.proofs.first.first_levels.Goals as goal
 
 pub returns-clause-value : goal.returns-clause-value
@@ -18,7 +18,7 @@ returns-clause-value g c =
     (omega (arith, r.within, r.small)) refl (λ i h. get_or-replicate 31 i c.all-levels.result no_literals h)
     (λ f v. c.all-levels.ensures.value f v ∙ ap (ltb f) all)
     (λ f v. c.of_state.ensures.value f v ∙ ap (λ (n : ℕ). ltb f (min n 64) && is v (bit c.start_state.result f)) facts
-    ∙ start_level m law c.start_state.result f v c.start_state.ensures)
+    ∙ task_start_level m law c.start_state.result f v c.start_state.ensures)
     refl
     (λ f v. c.opposites.ensures.value f v ∙ c.goals.ensures f (not v))
     c.without.ensures.value
